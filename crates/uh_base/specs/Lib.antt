@@ -1,0 +1,5 @@
+pub mod Counts
+pub mod Digits
+pub mod Told
+pub mod MemFiles
+pub mod Bytes
