@@ -1,0 +1,26 @@
+//! Hexadecimal text.
+#![tactic(auto)]
+
+ghost use Rattle.std.specs.Prelude.{◌≡◌, ◌<◌, ◌++◌, OnOk};
+ghost use Rattle.uh_base.specs.Hex.{hex_digits, hex_digit};
+
+use std::alloc::AllocError;
+
+fn digit(n: u8) -> u8
+    requires { n < 16 }
+    ensures { result ≡ hex_digit n }
+{
+    if n < 10 { n + b'0' } else { n - 10 + b'a' }
+}
+
+/// Appends so many hexadecimal digits of a number in lower case, the most significant first.
+#[tactic(auto, unfolding(crate::specs::Hex::hex_digits))]
+pub fn push_hex(text: &mut Vec<u8>, count: u8, n: u64) -> Result<(), AllocError>
+    ensures { OnOk result (text.new.items ≡ text.old.items ++ hex_digits count n) }
+{
+    if count > 0 {
+        push_hex(text, count - 1, n / 16)?;
+        text.push(digit((n % 16) as u8))?;
+    }
+    Ok(())
+}
