@@ -1,0 +1,6 @@
+pub mod Stores
+pub mod Values
+pub mod Asks
+pub mod Exec
+pub mod Steps
+pub mod Numbers
