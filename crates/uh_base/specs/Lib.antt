@@ -1,7 +1,9 @@
-pub mod Counts
-pub mod Digits
-pub mod Told
-pub mod MemFiles
 pub mod Bytes
-pub mod LittleEndian
+pub mod Counts
+pub mod DigitSteps
 pub mod Hex
+pub mod LittleEndian
+pub mod MemFiles
+pub mod MemSink
+pub mod Numbers
+pub mod Told

@@ -1,5 +1,5 @@
--- What is told of files and of a sink.
-use Rattle.std.specs.Prelude.{ℕ, ◌≡◌, ◌<◌, ◌++◌, List, length, take, Option, Some, None}
+-- What files and a sink tell.
+use Rattle.std.specs.Prelude.{ℕ, ◌≡◌, ◌<◌, ◌++◌, List, length, Option, Some, None}
 
 -- the files by name
 abbrev pub FileMap : Type 0
@@ -20,11 +20,11 @@ abbrev pub IsLonger : Option FileMap → List ℕ → ℕ → Type 0
 IsLonger None name most = Unit {0}
 IsLonger (Some files) name most = (bytes : List ℕ) × (files name ≡ Some bytes) × (most < length bytes)
 
--- all of the bytes were appended
-abbrev pub Puts : Option (List ℕ) → Option (List ℕ) → List ℕ → Type 0
-Puts None new bytes = new ≡ None
-Puts (Some old) new bytes = new ≡ Some (old ++ bytes)
+-- what is told after these bytes were put
+abbrev pub grown : Option (List ℕ) → List ℕ → Option (List ℕ)
+grown None bytes = None
+grown (Some written) bytes = Some (written ++ bytes)
 
--- some first bytes were appended
-abbrev pub PutsPrefix : Option (List ℕ) → Option (List ℕ) → List ℕ → Type 0
-PutsPrefix old new bytes = (k : ℕ) × Puts old new (take k bytes)
+-- Some first bytes of these, maybe none or all, were put.
+abbrev pub GrownByPart : Option (List ℕ) → List ℕ → Option (List ℕ) → Type 0
+GrownByPart old bytes new = (part rest : List ℕ) × (bytes ≡ part ++ rest) × (new ≡ grown old part)
