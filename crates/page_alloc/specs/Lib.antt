@@ -1,1 +1,4 @@
 pub mod Layout
+pub mod Pages
+pub mod Opening
+pub mod Runs

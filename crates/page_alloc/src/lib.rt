@@ -2,5 +2,11 @@
 #![tactic(auto)]
 
 mod layout;
+mod map;
+mod page;
+mod runs;
 
 pub use layout::Layout;
+pub use map::PageMap;
+pub use page::{Owner, Page, PageRefusal};
+pub use runs::Run;

@@ -1,0 +1,32 @@
+-- The pages of runs.
+use Rattle.std.proofs.Common.{◌≡◌, ℕ, zero, suc, ◌+◌, ◌-◌, ◌<◌, ◌≤◌, List, [], ◌∷◌, ◌++◌, length, replicate, take, drop, get_or, Some, None, refl, sym, ap, ◌∙◌, arith, length-append, add-one, add-zero}
+use Rattle.std.specs.Prelude.{slice_get}
+use Rattle.std.proofs.lemmas.List.{at_drop_more, at_drop_all}
+use Rattle.page_alloc.specs.declared.page.Page.{Page}
+use Rattle.page_alloc.specs.declared.runs.Run.{Run}
+use Rattle.page_alloc.specs.Runs.{all_pages, NoneEmpty}
+
+-- the pages from a run on
+pub pages_from : (runs : List Run) (i : ℕ) (d : Run) → i < length runs → all_pages (drop i runs) ≡ replicate (get_or runs i d).count (get_or runs i d).page ++ all_pages (drop (i + 1) runs)
+unfolding all_pages
+pages_from runs i d h = at_drop_more all_pages runs i d h
+
+pub pages_end : (runs : List Run) (i : ℕ) → length runs ≤ i → all_pages (drop i runs) ≡ []
+unfolding all_pages
+pages_end runs i h = at_drop_all all_pages runs i h
+
+pub in_first : (count left : ℕ) (page : Page) (rest : List Page) → left < count → slice_get (replicate count page ++ rest) left ≡ Some page
+in_first zero left page rest h = absurd (omega arith)
+in_first (suc count) zero page rest h = refl
+in_first (suc count) (suc left) page rest h = in_first count left page rest (omega arith)
+
+pub behind_first : (count left : ℕ) (page : Page) (rest : List Page) → count ≤ left → slice_get (replicate count page ++ rest) left ≡ slice_get rest (left - count)
+behind_first zero left page rest h = ap (λ k. slice_get rest k) (omega arith)
+behind_first (suc count) zero page rest h = absurd (omega arith)
+behind_first (suc count) (suc left) page rest h = behind_first count left page rest (omega arith) ∙ ap (λ k. slice_get rest k) (omega arith)
+
+pub page_here : (runs : List Run) (i left : ℕ) (d : Run) → i < length runs → left < (get_or runs i d).count → slice_get (all_pages (drop i runs)) left ≡ Some (get_or runs i d).page
+page_here runs i left d h l = rw (pages_from runs i d h) (in_first (get_or runs i d).count left (get_or runs i d).page (all_pages (drop (i + 1) runs)) l)
+
+pub page_later : (runs : List Run) (i left n : ℕ) (d : Run) → i < length runs → n ≡ (get_or runs i d).count → n ≤ left → slice_get (all_pages (drop i runs)) left ≡ slice_get (all_pages (drop (i + 1) runs)) (left - n)
+page_later runs i left n d h e l = rw (pages_from runs i d h, e) (behind_first (get_or runs i d).count left (get_or runs i d).page (all_pages (drop (i + 1) runs)) (omega arith))

@@ -1,0 +1,56 @@
+//! What a page is, and why pages are refused.
+#![tactic(auto)]
+
+ghost use Rattle.std.specs.Prelude.{◌≡◌};
+ghost use Rattle.page_alloc.specs.Opening.{firmware};
+
+/// Who a page belongs to.
+#[derive(Clone, Copy, Debug, PartialEq, Eq, Drop)]
+pub enum Owner {
+    /// Nobody.
+    Free,
+    /// The tables, stacks and arguments that are there at opening.
+    Firmware,
+    /// A guest that allocated pages.
+    Pages,
+    /// The pool.
+    Pool,
+    /// A loaded image.
+    Image,
+}
+
+/// What is known of a page of 4,096 bytes: its memory type by UEFI 2.10, table 7.10, and its owner.
+#[derive(Clone, Copy, Debug, PartialEq, Eq, Drop)]
+pub struct Page {
+    /// The memory type, 7 for conventional memory.
+    pub memory_type: u32,
+    /// The owner.
+    pub owner: Owner,
+}
+
+/// A page that may be given.
+pub const CONVENTIONAL: Page = Page {
+    memory_type: 7,
+    owner: Owner::Free,
+};
+
+/// A page that is in use at opening.
+pub fn firmware(memory_type: u32) -> Page
+    ensures { result ≡ firmware memory_type }
+{
+    Page {
+        memory_type,
+        owner: Owner::Firmware,
+    }
+}
+
+/// Why pages are not given or not taken back.
+#[derive(Clone, Copy, Debug, PartialEq, Eq, Drop)]
+pub enum PageRefusal {
+    /// An argument has no meaning: the kind, the memory type, the count or the address.
+    Invalid,
+    /// The pages asked for by address are not there, or not to be had.
+    NotFound,
+    /// No conventional pages fit.
+    NoPages,
+}
