@@ -1,2 +1,5 @@
 pub mod Openings
 pub mod RunLemmas
+pub mod PageLemmas
+pub mod FitLemmas
+pub mod ScanLemmas

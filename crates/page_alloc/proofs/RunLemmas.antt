@@ -1,7 +1,7 @@
 -- The pages of runs.
 use Rattle.std.proofs.Common.{◌≡◌, ℕ, zero, suc, ◌+◌, ◌-◌, ◌<◌, ◌≤◌, List, [], ◌∷◌, ◌++◌, length, replicate, take, drop, get_or, Some, None, refl, sym, ap, ◌∙◌, arith, length-append, add-one, add-zero}
 use Rattle.std.specs.Prelude.{slice_get}
-use Rattle.std.proofs.lemmas.List.{at_drop_more, at_drop_all}
+use Rattle.std.proofs.lemmas.List.{at_drop_more, at_drop_all, drop-drop, drop_at, length-replicate}
 use Rattle.page_alloc.specs.declared.page.Page.{Page}
 use Rattle.page_alloc.specs.declared.runs.Run.{Run}
 use Rattle.page_alloc.specs.Runs.{all_pages, NoneEmpty}
@@ -30,3 +30,15 @@ page_here runs i left d h l = rw (pages_from runs i d h) (in_first (get_or runs 
 
 pub page_later : (runs : List Run) (i left n : ℕ) (d : Run) → i < length runs → n ≡ (get_or runs i d).count → n ≤ left → slice_get (all_pages (drop i runs)) left ≡ slice_get (all_pages (drop (i + 1) runs)) (left - n)
 page_later runs i left n d h e l = rw (pages_from runs i d h, e) (behind_first (get_or runs i d).count left (get_or runs i d).page (all_pages (drop (i + 1) runs)) (omega arith))
+
+-- the pages behind a run, where those before it are dropped
+pub front_more : (runs : List Run) (pages : List Page) (i end n : ℕ) (d : Run) → i < length runs → n ≡ (get_or runs i d).count → drop end pages ≡ all_pages (drop i runs) → drop (end + n) pages ≡ all_pages (drop (i + 1) runs)
+front_more runs pages i end n d h e front =
+    sym (drop-drop n end pages) ∙ ap (λ ps. drop n ps) (front ∙ pages_from runs i d h)
+    ∙ drop_at (replicate (get_or runs i d).count (get_or runs i d).page) (all_pages (drop (i + 1) runs)) n (length-replicate (get_or runs i d).count (get_or runs i d).page ∙ sym e)
+
+-- no run is empty
+pub not_empty : (runs : List Run) (i : ℕ) (d : Run) → NoneEmpty runs → i < length runs → 0 < (get_or runs i d).count
+not_empty [] i d all h = absurd (omega arith)
+not_empty (run ∷ runs) zero d all h = all.0
+not_empty (run ∷ runs) (suc i) d all h = not_empty runs i d all.1 (omega arith)

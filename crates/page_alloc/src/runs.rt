@@ -1,9 +1,11 @@
 //! Runs of equal pages.
 #![tactic(auto)]
 
-ghost use Rattle.std.specs.Prelude.{◌≡◌, ◌≤◌, ◌<◌, ◌+◌, ◌-◌, ◌/◌, ◌^◌, IfOk, vec_capacity, slice_get};
+ghost use Rattle.std.specs.Prelude.{◌≡◌, ◌≤◌, ◌<◌, ◌+◌, ◌-◌, ◌/◌, ◌^◌, IfOk, Some, None, length, nat_le, if◌then◌else◌, vec_capacity, slice_get};
 ghost use Rattle.page_alloc.specs.Layout.{IsLayout};
 ghost use Rattle.page_alloc.specs.Opening.{opening_pages};
+ghost use Rattle.page_alloc.specs.Pages.{is_conventional};
+ghost use Rattle.page_alloc.specs.Fit.{IsGreatest, is_room};
 ghost use Rattle.page_alloc.specs.Runs.{all_pages, NoneEmpty};
 
 use crate::layout::Layout;
@@ -63,4 +65,44 @@ pub fn page_in(runs: &[Run], index: u64) -> Option<Page>
         left -= u64::from(run.count);
     }
     None
+}
+
+/// Where the conventional pages begin that end with a run, in pages: where they began before it, or behind it.
+fn room_behind(run: &Run, room: u64, end: u64) -> u64
+    ensures { result ≡ (if is_conventional run.now.page then room else end) }
+{
+    if run.page.memory_type == CONVENTIONAL.memory_type {
+        room
+    } else {
+        end
+    }
+}
+
+/// The greatest start of so many pages from `room` on and up to `top`.
+fn last_start(room: u64, top: u64, count: u64) -> Option<u64>
+    ensures { result ≡ (if nat_le (room + count) top then Some (top - count) else None) }
+{
+    if top >= count && top - count >= room {
+        Some(top - count)
+    } else {
+        None
+    }
+}
+
+/// The greatest start of so many conventional pages that end at most at a limit, all in pages.
+pub fn highest_room(runs: &[Run], count: u64, limit: u64) -> Option<u64>
+    requires some { 0 < count }
+    requires none_empty { NoneEmpty runs.now }
+    requires few { length (all_pages runs.now) < 2 ^ 32 }
+    ensures { IsGreatest (is_room (all_pages runs.now) count limit) result }
+{
+    let mut end = 0;
+    let mut room = 0;
+    let mut best = None;
+    for run in runs {
+        end += u64::from(run.count);
+        room = room_behind(run, room, end);
+        best = last_start(room, end.min(limit), count).or(best);
+    }
+    best
 }
