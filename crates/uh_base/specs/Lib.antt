@@ -1,6 +1,8 @@
 pub mod Bytes
 pub mod Counts
+pub mod Crc
 pub mod DigitSteps
+pub mod Guid
 pub mod Hex
 pub mod LittleEndian
 pub mod MemFiles
