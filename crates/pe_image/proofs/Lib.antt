@@ -1,0 +1,4 @@
+pub mod CheckLemmas
+pub mod SectionLemmas
+pub mod HeaderLemmas
+pub mod ImageLemmas

@@ -1,0 +1,66 @@
+//! Numbers at offsets of a file, the least byte first.
+#![tactic(auto)]
+
+ghost use Rattle.std.specs.Prelude.{◌≡◌, ◌≤◌, ◌+◌, ◌^◌, ◌<◌, [], ◌∷◌, length};
+ghost use Rattle.pe_image.specs.Checks.{judged, is_there};
+ghost use Rattle.pe_image.specs.Numbers.{u16_at, u32_at, u64_at};
+
+use crate::fault::PeFault;
+
+/// Whether the field of so many bytes at an offset lies wholly in the file.
+pub fn find_field(bytes: &[u8], at: u32, width: u8) -> Result<(), PeFault>
+    ensures { result ≡ judged (is_there bytes.now at width ∷ []) tt }
+{
+    if at as usize + width as usize > bytes.len() {
+        return Err(PeFault::Truncated(at));
+    }
+    Ok(())
+}
+
+/// The number of two bytes at an offset of the file.
+#[tactic(auto, unfolding(crate::specs::Numbers::u16_at))]
+pub fn u16_in(bytes: &[u8], at: u32) -> u16
+    requires { at + 2 ≤ length bytes.now }
+    ensures { result ≡ u16_at bytes.now at }
+{
+    let i = at as usize;
+    u16::from_le_bytes([bytes[i], bytes[i + 1]])
+}
+
+/// The number of four bytes at an offset of the file.
+#[tactic(auto, unfolding(crate::specs::Numbers::u32_at))]
+pub fn u32_in(bytes: &[u8], at: u32) -> u32
+    requires { at + 4 ≤ length bytes.now }
+    ensures { result ≡ u32_at bytes.now at }
+{
+    let i = at as usize;
+    u32::from_le_bytes([bytes[i], bytes[i + 1], bytes[i + 2], bytes[i + 3]])
+}
+
+/// The number of two bytes at an offset, if it lies wholly in the file.
+pub fn u16_at(bytes: &[u8], at: u32) -> Result<u16, PeFault>
+    ensures { result ≡ judged (is_there bytes.now at 2 ∷ []) (u16_at bytes.now at) }
+{
+    find_field(bytes, at, 2)?;
+    Ok(u16_in(bytes, at))
+}
+
+/// The number of four bytes at an offset, if it lies wholly in the file.
+pub fn u32_at(bytes: &[u8], at: u32) -> Result<u32, PeFault>
+    ensures { result ≡ judged (is_there bytes.now at 4 ∷ []) (u32_at bytes.now at) }
+{
+    find_field(bytes, at, 4)?;
+    Ok(u32_in(bytes, at))
+}
+
+/// The number of eight bytes at an offset, if it lies wholly in the file.
+#[tactic(auto, unfolding(crate::specs::Numbers::u64_at))]
+pub fn u64_at(bytes: &[u8], at: u32) -> Result<u64, PeFault>
+    requires { at < 2 ^ 31 }
+    ensures { result ≡ judged (is_there bytes.now at 8 ∷ []) (u64_at bytes.now at) }
+{
+    find_field(bytes, at, 8)?;
+    let low = u32_in(bytes, at);
+    let high = u32_in(bytes, at + 4);
+    Ok(low as u64 + ((high as u64) << 32))
+}

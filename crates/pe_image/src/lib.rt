@@ -1,0 +1,15 @@
+//! PE32+ images for RISC-V: what a file holds, and the bytes of an image where it is placed.
+//!
+//! Sections are named by those of the PE/COFF specification.
+#![tactic(auto)]
+
+mod fault;
+mod fields;
+mod headers;
+mod image;
+mod reading;
+mod sections;
+
+pub use fault::PeFault;
+pub use image::{Image, Section};
+pub use reading::read_image;
