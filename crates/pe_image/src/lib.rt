@@ -7,9 +7,13 @@ mod fault;
 mod fields;
 mod headers;
 mod image;
+mod laws;
+mod placing;
 mod reading;
 mod sections;
 
 pub use fault::PeFault;
 pub use image::{Image, Section};
+pub use laws::read_images_are_sound;
+pub use placing::place;
 pub use reading::read_image;

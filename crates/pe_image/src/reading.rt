@@ -5,6 +5,7 @@ ghost use Rattle.std.specs.Prelude.{◌≡◌, ◌≤◌, ◌<◌, ◌+◌, ◌*
 ghost use Rattle.pe_image.specs.Checks.{judged, Reads};
 ghost use Rattle.pe_image.specs.ImageOf.{fields_of, image_of, header_checks, end_checks};
 ghost use Rattle.pe_image.specs.Parts.{headers_of, numbers_of};
+ghost use Rattle.pe_image.specs.Sound.{IsImage};
 
 use crate::fault::PeFault;
 use crate::headers::{Directory, Optional, read_headers};
@@ -61,7 +62,8 @@ fn check_ends(optional: &Optional, directory: &Directory) -> Result<(), PeFault>
 /// The image that the file holds, or the first thing that is wrong with it. The file has at most 4 MiB.
 pub fn read_image(alloc: Global, bytes: &[u8]) -> Result<Image, PeFault>
     requires { length bytes.now ≤ 0x400000 }
-    ensures { Reads fields_of result (image_of bytes.now) }
+    ensures read { Reads fields_of result (image_of bytes.now) }
+    ensures sound { IfOk result (λ image. IsImage (fields_of image)) }
 {
     let headers = read_headers(bytes)?;
     let optional = headers.optional;
