@@ -3,3 +3,7 @@ pub mod RunLemmas
 pub mod PageLemmas
 pub mod FitLemmas
 pub mod ScanLemmas
+pub mod EditLemmas
+pub mod OwnedLemmas
+pub mod SplitLemmas
+pub mod SamePage

@@ -1,7 +1,7 @@
 -- The pages of runs.
 use Rattle.std.proofs.Common.{◌≡◌, ℕ, zero, suc, ◌+◌, ◌-◌, ◌<◌, ◌≤◌, List, [], ◌∷◌, ◌++◌, length, replicate, take, drop, get_or, Some, None, refl, sym, ap, ◌∙◌, arith, length-append, add-one, add-zero}
 use Rattle.std.specs.Prelude.{slice_get}
-use Rattle.std.proofs.lemmas.List.{at_drop_more, at_drop_all, drop-drop, drop_at, length-replicate}
+use Rattle.std.proofs.lemmas.List.{at_drop_more, at_drop_all, drop-drop, drop_at, length-replicate, append_assoc, append-nil, take_more, take_all}
 use Rattle.page_alloc.specs.declared.page.Page.{Page}
 use Rattle.page_alloc.specs.declared.runs.Run.{Run}
 use Rattle.page_alloc.specs.Runs.{all_pages, NoneEmpty}
@@ -42,3 +42,30 @@ pub not_empty : (runs : List Run) (i : ℕ) (d : Run) → NoneEmpty runs → i <
 not_empty [] i d all h = absurd (omega arith)
 not_empty (run ∷ runs) zero d all h = all.0
 not_empty (run ∷ runs) (suc i) d all h = not_empty runs i d all.1 (omega arith)
+
+pub pages-append : (xs ys : List Run) → all_pages (xs ++ ys) ≡ all_pages xs ++ all_pages ys
+unfolding all_pages
+pages-append [] ys = refl
+pages-append (run ∷ xs) ys = ap (λ ps. replicate run.count run.page ++ ps) (pages-append xs ys) ∙ sym (append_assoc (replicate run.count run.page) (all_pages xs) (all_pages ys))
+
+pub one_run : (run : Run) → all_pages (run ∷ []) ≡ replicate run.count run.page
+unfolding all_pages
+one_run run = append-nil (replicate run.count run.page)
+
+-- a run more before a place
+pub before_more : (runs : List Run) (i : ℕ) (d : Run) → i < length runs → length (all_pages (take (i + 1) runs)) ≡ length (all_pages (take i runs)) + (get_or runs i d).count
+before_more runs i d h =
+    ap (λ rs. length (all_pages rs)) (take_more runs i d h) ∙ ap length (pages-append (take i runs) (get_or runs i d ∷ []))
+    ∙ length-append (all_pages (take i runs)) (all_pages (get_or runs i d ∷ []))
+    ∙ ap (λ n. length (all_pages (take i runs)) + n) (ap length (one_run (get_or runs i d)) ∙ length-replicate (get_or runs i d).count (get_or runs i d).page)
+
+pub before_all : (runs : List Run) (i : ℕ) → length runs ≤ i → all_pages (take i runs) ≡ all_pages runs
+before_all runs i h = ap all_pages (take_all i runs h)
+
+pub left_more : (runs : List Run) (i left n index : ℕ) (d : Run) → i < length runs → n ≡ (get_or runs i d).count → n ≤ left
+    → length (all_pages (take i runs)) + left ≡ index → length (all_pages (take (i + 1) runs)) + (left - n) ≡ index
+left_more runs i left n index d h e l so_far = let more = before_more runs i d h in omega (arith, more)
+
+pub front_at : (runs : List Run) (pages : List Page) (i end n : ℕ) (d : Run) → i < length runs → n ≡ (get_or runs i d).count → drop end pages ≡ all_pages (drop i runs)
+    → drop end pages ≡ replicate n (get_or runs i d).page ++ all_pages (drop (i + 1) runs)
+front_at runs pages i end n d h e front = front ∙ pages_from runs i d h ∙ ap (λ k. replicate k (get_or runs i d).page ++ all_pages (drop (i + 1) runs)) (sym e)

@@ -3,6 +3,7 @@
 
 ghost use Rattle.std.specs.Prelude.{◌≡◌};
 ghost use Rattle.page_alloc.specs.Opening.{firmware};
+ghost use Rattle.page_alloc.specs.Calls.{is_same_owner};
 
 /// Who a page belongs to.
 #[derive(Clone, Copy, Debug, PartialEq, Eq, Drop)]
@@ -26,6 +27,15 @@ pub struct Page {
     pub memory_type: u32,
     /// The owner.
     pub owner: Owner,
+}
+
+impl Owner {
+    /// Whether the owners are one.
+    pub fn is(self, other: Owner) -> bool
+        ensures { result ≡ is_same_owner self other }
+    {
+        self == other
+    }
 }
 
 /// A page that may be given.
