@@ -1,0 +1,4 @@
+pub mod MarkLemmas
+pub mod PageLemmas
+pub mod RunLemmas
+pub mod NumberLemmas

@@ -1,0 +1,92 @@
+-- What the calls of a memory make of it.
+use Rattle.std.specs.Prelude.{ℕ, zero, suc, ◌≡◌, ◌+◌, ◌-◌, ◌*◌, ◌/◌, ◌%◌, ◌<◌, ◌≤◌, ◌==◌, ◌&&◌, ◌||◌, not, nat_lt, nat_le, Bool, true, false, Result, Ok, Err, slice_set}
+use Rattle.uh_base.specs.Bytes.{next}
+use Rattle.guest_memory.specs.Lists.{filled, count_true}
+use Rattle.guest_memory.specs.Pages.{Pages, holds, page_of, is_touched, all_rights}
+use Rattle.guest_memory.specs.declared.rights.Rights.{Rights}
+use Rattle.guest_memory.specs.declared.rights.PutEnd.{PutEnd}
+use Rattle.guest_memory.specs.declared.rights.PutEnd.TheVariants.{Outside, Frames, Memory}
+
+-- 65,536 pages are touched, and this one isn't
+abbrev pub lacks : Pages → ℕ → Bool
+lacks m page = not (is_touched m page) && count_true m.touched == 65536
+
+abbrev pub touch : Pages → ℕ → Pages
+touch m page = record m { touched = slice_set m.touched page true }
+
+-- the memory with a byte put
+abbrev pub put_to : Pages → ℕ → ℕ → Pages
+put_to m at byte = record m { bytes = slice_set m.bytes (at - m.base) byte; touched = slice_set m.touched (page_of m at) true }
+
+-- A touch of a page in memory that ends so leads from old to new.
+abbrev pub TouchGives : {X : Type 0} → Result X PutEnd → Pages → Pages → ℕ → Type 0
+TouchGives (Ok done) old new page = (lacks old page ≡ false) × (new ≡ touch old page)
+TouchGives (Err Outside) old new page = ⊥
+TouchGives (Err Frames) old new page = (lacks old page ≡ true) × (new ≡ old)
+TouchGives (Err Memory) old new page = (lacks old page ≡ false) × (is_touched old page ≡ false) × (new ≡ old)
+
+-- A put of a byte that ends so leads from old to new.
+abbrev pub PutGives : {X : Type 0} → Result X PutEnd → Pages → Pages → ℕ → ℕ → Type 0
+PutGives (Ok done) old new at byte = (holds old at ≡ true) × (lacks old (page_of old at) ≡ false) × (new ≡ put_to old at byte)
+PutGives (Err Outside) old new at byte = (holds old at ≡ false) × (new ≡ old)
+PutGives (Err Frames) old new at byte = (holds old at ≡ true) × (lacks old (page_of old at) ≡ true) × (new ≡ old)
+PutGives (Err Memory) old new at byte =
+    (holds old at ≡ true) × (lacks old (page_of old at) ≡ false) × (is_touched old (page_of old at) ≡ false) × (new ≡ old)
+
+-- the memory with a number of so many bytes put, its least byte first
+unfoldable pub put_number : Pages → ℕ → ℕ → ℕ → Pages
+put_number m at zero value = m
+put_number m at (suc n) value = put_number (put_to m at (value % 256)) (next at) n (value / 256)
+
+-- A put of a number in one page of memory that ends so leads from old to new.
+abbrev pub NumberGives : {X : Type 0} → Result X PutEnd → Pages → Pages → ℕ → ℕ → ℕ → Type 0
+NumberGives (Ok done) old new at width value = (lacks old (page_of old at) ≡ false) × (new ≡ put_number old at width value)
+NumberGives (Err Outside) old new at width value = ⊥
+NumberGives (Err Frames) old new at width value = (lacks old (page_of old at) ≡ true) × (new ≡ old)
+NumberGives (Err Memory) old new at width value = (lacks old (page_of old at) ≡ false) × (is_touched old (page_of old at) ≡ false) × (new ≡ old)
+
+-- whether each of so many pages, from a page on, is in memory
+abbrev pub has_pages : Pages → ℕ → ℕ → Bool
+has_pages m page count = count == 0 || nat_le (page + count) m.pages
+
+-- the memory with so many pages touched, from a page on
+abbrev pub reserved : Pages → ℕ → ℕ → Pages
+reserved m page count = record m { touched = filled m.touched page count true }
+
+-- one of so many pages isn't touched
+pub record SomeUntouched (m : Pages) (page count : ℕ) : Type 0 where
+  pub at : ℕ
+  pub low : page ≤ at
+  pub high : at < page + count
+  pub untouched : is_touched m at ≡ false
+
+-- at most the marks changed, and no touched page lost its mark
+pub record TouchedBesides (old new : Pages) : Type 0 where
+  pub rest : new ≡ record old { touched = new.touched }
+  pub kept : (page : ℕ) → is_touched old page ≡ true → is_touched new page ≡ true
+
+-- A reserve that ends so leads from old to new.
+abbrev pub ReserveGives : {X : Type 0} → Result X PutEnd → Pages → Pages → ℕ → ℕ → Type 0
+ReserveGives (Ok done) old new page count =
+    (has_pages old page count ≡ true) × (count_true (reserved old page count).touched ≤ 65536) × (new ≡ reserved old page count)
+ReserveGives (Err Outside) old new page count = (has_pages old page count ≡ false) × (new ≡ old)
+ReserveGives (Err Frames) old new page count =
+    (has_pages old page count ≡ true) × (65536 < count_true (reserved old page count).touched) × (new ≡ old)
+ReserveGives (Err Memory) old new page count =
+    (has_pages old page count ≡ true) × (count_true (reserved old page count).touched ≤ 65536) × SomeUntouched old page count × TouchedBesides old new
+
+-- the memory with zeros, all rights and no mark at so many pages, from a page on
+abbrev pub cleared : Pages → ℕ → ℕ → Pages
+cleared m page count = record m {
+  bytes = filled m.bytes (4096 * page) (4096 * count) 0;
+  rights = filled m.rights page count all_rights;
+  touched = filled m.touched page count false;
+}
+
+-- the memory with these rights at so many pages, from a page on
+abbrev pub with_rights : Pages → ℕ → ℕ → Rights → Pages
+with_rights m page count rights = record m { rights = filled m.rights page count rights }
+
+-- whether an address is in one of so many pages, from a page on
+abbrev pub in_run : Pages → ℕ → ℕ → ℕ → Bool
+in_run m page count at = nat_le (m.base + 4096 * page) at && nat_lt at (m.base + 4096 * (page + count))
