@@ -1,14 +1,14 @@
 -- Numbers of several bytes in one page.
 use Rattle.std.proofs.Common.{◌≡◌, ◌≢◌, ℕ, ◌+◌, ◌*◌, ◌-◌, ◌/◌, ◌%◌, ◌^◌, ◌<◌, ◌≤◌, Bool, true, false, List, length, get_or, refl, sym, ◌∙◌, ap, arith, slice_set, take, drop, [], ◌∷◌, ◌++◌, zero, suc, not, append_assoc, subst}
 use Rattle.std.specs.Prelude.{◌==◌, ◌&&◌, ◌||◌, nat_le, nat_lt, slice_index, IsTrue, Option, Some, None, Result, Ok, Err, OnOk}
-use Rattle.std.specs.Int.{to_le_bytes, w64}
 use Rattle.std.proofs.Math.ListN.{set, length-set}
 use Rattle.std.proofs.Math.Seq.{take-suc-set}
-use Rattle.std.proofs.Math.Nat.{div-div-eq-div-mul}
-use Rattle.std.proofs.lemmas.List.{drop-set-lt, drop-drop, take-append-drop}
+use Rattle.std.proofs.Math.Nat.{pow-le-pow_right}
+use Rattle.std.proofs.lemmas.List.{drop_more, drop-set-lt, drop-drop, take-append-drop}
 use Rattle.std.proofs.lemmas.Grind.{common_steps}
 use Rattle.std.proofs.lemmas.Bool.Decides.{nat_tests}
 use Rattle.uh_base.specs.Bytes.{next, is_width, number_at, with_byte, with_number}
+use Rattle.uh_base.specs.LittleEndian.{little_endian, low_bytes}
 use Rattle.guest_memory.specs.Lists.{written_over}
 use Rattle.guest_memory.specs.Pages.{Pages, Whole, InPage, holds, page_of, bytes_of, rights_at, is_touched}
 use Rattle.guest_memory.specs.Changes.{touch, lacks, put_to, put_number, NumberGives}
@@ -20,81 +20,37 @@ use Rattle.guest_memory.proofs.PageLemmas.{bytes_put_long, rights_put}
 pub is_held : (m : Pages) (at : ℕ) → m.base ≤ at → at < m.base + 4096 * m.pages → holds m at ≡ true
 is_held m at low high = grind (arith, nat_tests)
 
--- the first byte of a number, and the rest
-step : (m : Pages) (at next_at i n : ℕ) → at ≡ m.base + i → i < 4096 * m.pages → next_at ≡ at + 1 → next_at < 2 ^ 64
-    → number_at (bytes_of m) at (suc n) ≡ get_or m.bytes i 0 + 256 * number_at (bytes_of m) next_at n
-unfolding number_at bytes_of
-step m at next_at i n e below t small =
+-- so many bytes from an index on make the number at the address
+read : (m : Pages) (n at i : ℕ) → at ≡ m.base + i → i + n ≤ length m.bytes → length m.bytes ≡ 4096 * m.pages → at + n < 2 ^ 64
+    → little_endian (take n (drop i m.bytes)) ≡ number_at (bytes_of m) at n
+unfolding little_endian number_at bytes_of
+read m zero at i e inside long small = refl
+read m (suc n) at i e inside long small =
     let ins : holds m at ≡ true = is_held m at (omega arith) (omega arith) in
     let index : at - m.base ≡ i = omega arith in
-    let more : next at ≡ next_at = omega arith in
-    rw (ins, index, more) refl
+    let more : next at ≡ at + 1 = omega arith in
+    let first : drop i m.bytes ≡ get_or m.bytes i 0 ∷ drop (i + 1) m.bytes = drop_more m.bytes i 0 (omega arith) in
+    ap (λ xs. little_endian (take (suc n) xs)) first
+    ∙ ap (λ k. get_or m.bytes i 0 + 256 * k) (read m n (at + 1) (i + 1) (omega arith) (omega arith) long (omega arith))
+    ∙ rw (ins, index, more) refl
 
-nothing : (m : Pages) (at : ℕ) → number_at (bytes_of m) at 0 ≡ 0
-unfolding number_at
-nothing m at = refl
+-- the same of a copy of the bytes
+pub read_part : (m : Pages) (xs : List ℕ) (base at width last : ℕ) → Whole m → xs ≡ m.bytes → base ≡ m.base → InPage m at width → last ≡ at - base + width
+    → little_endian (take (last - (at - base)) (drop (at - base) xs)) ≡ number_at (bytes_of m) at width
+read_part m xs base at width last whole x b inside e =
+    let end = whole.end in let low = inside.low in let high = inside.high in let long = whole.bytes_long in
+    let n : last - (at - base) ≡ width = omega arith in
+    rw (n, x, b) (read m width at (at - m.base) (omega arith) (omega arith) long (omega arith))
 
-number_1 : (m : Pages) (at i : ℕ) → at ≡ m.base + i → i < 4096 * m.pages → at + 1 < 2 ^ 64 → get_or m.bytes i 0 ≡ number_at (bytes_of m) at 1
-number_1 m at i e below small =
-    let a = step m at (at + 1) i 0 e below refl small in
-    let z = nothing m (at + 1) in omega arith
-
-number_2 : (m : Pages) (at i : ℕ) → at ≡ m.base + i → i + 2 ≤ 4096 * m.pages → at + 2 < 2 ^ 64 → get_or m.bytes i 0 + get_or m.bytes (i + 1) 0 * 256 ≡ number_at (bytes_of m) at 2
-number_2 m at i e below small =
-    let a = step m at (at + 1) i 1 e (omega arith) refl (omega arith) in
-    let b = step m (at + 1) (at + 2) (i + 1) 0 (omega arith) (omega arith) (omega arith) small in
-    let z = nothing m (at + 2) in omega arith
-
-number_4 : (m : Pages) (at i : ℕ) → at ≡ m.base + i → i + 4 ≤ 4096 * m.pages → at + 4 < 2 ^ 64
-    → get_or m.bytes i 0 + get_or m.bytes (i + 1) 0 * 256 + get_or m.bytes (i + 2) 0 * 65536 + get_or m.bytes (i + 3) 0 * 16777216 ≡ number_at (bytes_of m) at 4
-number_4 m at i e below small =
-    let a = step m at (at + 1) i 3 e (omega arith) refl (omega arith) in
-    let b = step m (at + 1) (at + 2) (i + 1) 2 (omega arith) (omega arith) (omega arith) (omega arith) in
-    let c = number_2 m (at + 2) (i + 2) (omega arith) (omega arith) (omega arith) in
-    let d : i + 2 + 1 ≡ i + 3 = omega arith in
-    let f = ap (λ k. get_or m.bytes k 0) d in omega arith
-
-number_8 : (m : Pages) (at i : ℕ) → at ≡ m.base + i → i + 8 ≤ 4096 * m.pages → at + 8 < 2 ^ 64
-    → get_or m.bytes i 0 + get_or m.bytes (i + 1) 0 * 256 + get_or m.bytes (i + 2) 0 * 65536 + get_or m.bytes (i + 3) 0 * 16777216 + get_or m.bytes (i + 4) 0 * 4294967296 + get_or m.bytes (i + 5) 0 * 1099511627776 + get_or m.bytes (i + 6) 0 * 281474976710656 + get_or m.bytes (i + 7) 0 * 72057594037927936 ≡ number_at (bytes_of m) at 8
-number_8 m at i e below small =
-    let a = step m at (at + 1) i 7 e (omega arith) refl (omega arith) in
-    let b = step m (at + 1) (at + 2) (i + 1) 6 (omega arith) (omega arith) (omega arith) (omega arith) in
-    let c = step m (at + 2) (at + 3) (i + 2) 5 (omega arith) (omega arith) (omega arith) (omega arith) in
-    let d = step m (at + 3) (at + 4) (i + 3) 4 (omega arith) (omega arith) (omega arith) (omega arith) in
-    let f = step m (at + 4) (at + 5) (i + 4) 3 (omega arith) (omega arith) (omega arith) (omega arith) in
-    let g = step m (at + 5) (at + 6) (i + 5) 2 (omega arith) (omega arith) (omega arith) (omega arith) in
-    let h = step m (at + 6) (at + 7) (i + 6) 1 (omega arith) (omega arith) (omega arith) (omega arith) in
-    let j = step m (at + 7) (at + 8) (i + 7) 0 (omega arith) (omega arith) (omega arith) small in
-    let z = nothing m (at + 8) in omega arith
-
--- the same of a copy of the bytes and of the base
-pub read_1 : (m : Pages) (xs : List ℕ) (base at : ℕ) → Whole m → xs ≡ m.bytes → base ≡ m.base → InPage m at 1 → get_or xs (at - base) 0 ≡ number_at (bytes_of m) at 1
-read_1 m xs base at whole x b inside =
-    let end = whole.end in let low = inside.low in let high = inside.high in
-    rw (x, b) (number_1 m at (at - m.base) (omega arith) (omega arith) (omega arith))
-
-pub read_2 : (m : Pages) (xs : List ℕ) (base at : ℕ) → Whole m → xs ≡ m.bytes → base ≡ m.base → InPage m at 2
-    → get_or xs (at - base) 0 + get_or xs (at - base + 1) 0 * 256 ≡ number_at (bytes_of m) at 2
-read_2 m xs base at whole x b inside =
-    let end = whole.end in let low = inside.low in let high = inside.high in
-    rw (x, b) (number_2 m at (at - m.base) (omega arith) (omega arith) (omega arith))
-
-pub read_4 : (m : Pages) (xs : List ℕ) (base at : ℕ) → Whole m → xs ≡ m.bytes → base ≡ m.base → InPage m at 4
-    → get_or xs (at - base) 0 + get_or xs (at - base + 1) 0 * 256 + get_or xs (at - base + 2) 0 * 65536 + get_or xs (at - base + 3) 0 * 16777216 ≡ number_at (bytes_of m) at 4
-read_4 m xs base at whole x b inside =
-    let end = whole.end in let low = inside.low in let high = inside.high in
-    rw (x, b) (number_4 m at (at - m.base) (omega arith) (omega arith) (omega arith))
-
-pub read_8 : (m : Pages) (xs : List ℕ) (base at : ℕ) → Whole m → xs ≡ m.bytes → base ≡ m.base → InPage m at 8
-    → get_or xs (at - base) 0 + get_or xs (at - base + 1) 0 * 256 + get_or xs (at - base + 2) 0 * 65536 + get_or xs (at - base + 3) 0 * 16777216 + get_or xs (at - base + 4) 0 * 4294967296 + get_or xs (at - base + 5) 0 * 1099511627776 + get_or xs (at - base + 6) 0 * 281474976710656 + get_or xs (at - base + 7) 0 * 72057594037927936 ≡ number_at (bytes_of m) at 8
-read_8 m xs base at whole x b inside =
-    let end = whole.end in let low = inside.low in let high = inside.high in
-    rw (x, b) (number_8 m at (at - m.base) (omega arith) (omega arith) (omega arith))
-
--- so many bytes of a number, the least first
-abbrev pub digits : ℕ → ℕ → List ℕ
-digits zero v = []
-digits (suc n) v = v % 256 ∷ digits n (v / 256)
+-- bytes make a number below a power of 256
+pub below : (xs : List ℕ) → ((k : ℕ) → k < length xs → get_or xs k 0 < 256) → little_endian xs < 256 ^ length xs
+unfolding little_endian
+below [] each = omega arith
+below (x ∷ xs) each =
+    let first : x < 256 = each 0 (omega arith) in
+    let rest : little_endian xs < 256 ^ length xs = below xs (λ k h. each (suc k) (omega arith)) in
+    let power : 256 ^ suc (length xs) ≡ 256 * 256 ^ length xs = grind (arith, common_steps) in
+    omega arith
 
 -- the list with so many bytes of a number written from an index on
 pasted : ℕ → ℕ → List ℕ → List ℕ → List ℕ
@@ -118,45 +74,41 @@ pasted_none i xs = take-append-drop i xs
 
 -- bytes written at once in the page p, which is touched, are bytes put one by one
 pasted_put : (w i at v p : ℕ) (m : Pages) → at ≡ m.base + i → at + w < 2 ^ 64 → i + w ≤ length m.bytes → 4096 * p ≤ i → i + w ≤ 4096 * p + 4096
-    → slice_set m.touched p true ≡ m.touched → record m { bytes = pasted i w m.bytes (digits w v) } ≡ put_number m at w v
-unfolding put_number
+    → slice_set m.touched p true ≡ m.touched → record m { bytes = pasted i w m.bytes (low_bytes w v) } ≡ put_number m at w v
+unfolding put_number low_bytes
 pasted_put zero i at v p m e small in_bytes low high marks = ap (λ xs. record m { bytes = xs }) (pasted_none i m.bytes)
 pasted_put (suc w) i at v p m e small in_bytes low high marks =
     let index : i ≡ at - m.base = omega arith in
     let page : p ≡ page_of m at = omega arith in
     let more : at + 1 ≡ next at = omega arith in
     let m2 : Pages = record m { bytes = set m.bytes i (v % 256); touched = slice_set m.touched p true } in
-    ap (λ xs. record m { bytes = xs }) (pasted_step m.bytes (digits w (v / 256)) i w (v % 256) (omega arith))
-    ∙ ap (λ marks. record m { bytes = pasted (i + 1) w (set m.bytes i (v % 256)) (digits w (v / 256)); touched = marks }) (sym marks)
+    ap (λ xs. record m { bytes = xs }) (pasted_step m.bytes (low_bytes w (v / 256)) i w (v % 256) (omega arith))
+    ∙ ap (λ marks. record m { bytes = pasted (i + 1) w (set m.bytes i (v % 256)) (low_bytes w (v / 256)); touched = marks }) (sym marks)
     ∙ pasted_put w (i + 1) (at + 1) (v / 256) p m2 (omega arith) (omega arith) (omega (arith, length-set m.bytes i (v % 256))) (omega arith) (omega arith) (set_twice m.touched p)
     ∙ ap (λ k. put_number (record m { bytes = set m.bytes k (v % 256); touched = slice_set m.touched p true }) (at + 1) w (v / 256)) index
     ∙ ap (λ k. put_number (record m { bytes = set m.bytes (at - m.base) (v % 256); touched = slice_set m.touched k true }) (at + 1) w (v / 256)) page
     ∙ ap (λ k. put_number (put_to m at (v % 256)) k w (v / 256)) more
 
-over_is_pasted : (xs ys : List ℕ) (i w v : ℕ) → ys ≡ digits w v → length ys ≡ w → written_over xs i ys ≡ pasted i w xs (digits w v)
+length_low : (n v : ℕ) → length (low_bytes n v) ≡ n
+unfolding low_bytes
+length_low zero v = refl
+length_low (suc n) v = ap suc (length_low n (v / 256))
+
+over_is_pasted : (xs : List ℕ) (i w v : ℕ) → written_over xs i (low_bytes w v) ≡ pasted i w xs (low_bytes w v)
 unfolding pasted
-over_is_pasted xs ys i w v e len = rw len (ap (λ zs. take i xs ++ (zs ++ drop w (drop i xs))) e)
+over_is_pasted xs i w v = ap (λ k. take i xs ++ (low_bytes w v ++ drop k (drop i xs))) (length_low w v)
 
-pub wrote : (m : Pages) (at width w v : ℕ) (ys : List ℕ) → Whole m → width ≡ w → 1 ≤ w → InPage m at width → is_touched m (page_of m at) ≡ true → ys ≡ digits w v → length ys ≡ w
-    → record m { bytes = written_over m.bytes (at - m.base) ys } ≡ put_number m at width v
-wrote m at width w v ys whole same some inside touched e len =
+pub wrote : (m now : Pages) (bytes : List ℕ) (at width v : ℕ) → Whole m → m ≡ now → InPage now at width → is_touched now (page_of now at) ≡ true → IsTrue (is_width width)
+    → bytes ≡ written_over m.bytes (at - m.base) (low_bytes width v) → record m { bytes = bytes } ≡ put_number now at width v
+wrote m now bytes at width v whole same inside touched w e =
+    let some : 1 ≤ width = grind (arith, nat_tests) in
+    let p : InPage m at width = subst (λ (k : Pages). InPage k at width) (sym same) inside in
+    let t : is_touched m (page_of m at) ≡ true = subst (λ (k : Pages). is_touched k (page_of k at) ≡ true) (sym same) touched in
     let end = whole.end in let even = whole.base_even in let long = whole.bytes_long in
-    let low = inside.low in let high = inside.high in let one = inside.one in
-    ap (λ xs. record m { bytes = xs }) (over_is_pasted m.bytes ys (at - m.base) w v e len)
-    ∙ pasted_put w (at - m.base) at v (page_of m at) m (omega arith) (omega arith) (omega arith) (omega arith) (omega arith) (set_again m.touched (page_of m at) touched)
-    ∙ ap (λ k. put_number m at k v) (sym same)
-
-pub digits_8 : (v : ℕ) → to_le_bytes w64 v ≡ digits 8 v
-digits_8 v = simp div-div-eq-div-mul
-
-pub digits_4 : (v : ℕ) → take 4 (to_le_bytes w64 v) ≡ digits 4 v
-digits_4 v = simp div-div-eq-div-mul
-
-pub digits_2 : (v : ℕ) → take 2 (to_le_bytes w64 v) ≡ digits 2 v
-digits_2 v = refl
-
-pub digits_1 : (v : ℕ) → take 1 (to_le_bytes w64 v) ≡ digits 1 v
-digits_1 v = refl
+    let low = p.low in let high = p.high in let one = p.one in
+    ap (λ xs. record m { bytes = xs }) (e ∙ over_is_pasted m.bytes (at - m.base) width v)
+    ∙ pasted_put width (at - m.base) at v (page_of m at) m (omega arith) (omega arith) (omega arith) (omega arith) (omega arith) (set_again m.touched (page_of m at) t)
+    ∙ ap (λ k. put_number k at width v) same
 
 -- a touch before a put adds nothing
 pub touch_first : (m : Pages) (at width value : ℕ) → 1 ≤ width → put_number (touch m (page_of m at)) at width value ≡ put_number m at width value

@@ -3,11 +3,11 @@
 
 ghost use Rattle.std.specs.Prelude.{◌≡◌, ◌<◌, ◌≤◌, ◌+◌, ◌*◌, ◌-◌, ◌%◌, ◌^◌, ℕ, true, false, IsTrue, IfOk, OnOk, Some, None, length, replicate, slice_get, if◌then◌else◌};
 ghost use Rattle.uh_base.specs.Bytes.{is_width, number_at, with_byte, with_number};
-ghost use Rattle.guest_memory.specs.Lists.{count_true, written_over};
+ghost use Rattle.guest_memory.specs.Lists.{count_true};
 ghost use Rattle.guest_memory.specs.Pages.{Pages, Whole, InPage, all_rights, holds, page_of, bytes_of, rights_at, is_touched};
 ghost use Rattle.guest_memory.specs.Changes.{TouchGives, PutGives, NumberGives, ReserveGives, put_number, has_pages, cleared, with_rights, in_run};
 
-use crate::parts::{count_part, fill};
+use crate::parts::{count_part, fill, number_of, write_low};
 use crate::rights::{PutEnd, Rights};
 use std::alloc::{AllocError, Global};
 use std::marker::Model;
@@ -260,50 +260,6 @@ impl GuestMemory {
         fill(&mut self.rights, page as usize, count as usize, rights);
     }
 
-    fn byte_at(&self, at: u64) -> u8
-        requires { InPage self.now at 1 }
-        ensures { result ≡ number_at (bytes_of self.now) at 1 }
-    {
-        let bytes = self.bytes.as_slice();
-        bytes[(at - self.base) as usize]
-    }
-
-    fn half_at(&self, at: u64) -> u16
-        requires { InPage self.now at 2 }
-        ensures { result ≡ number_at (bytes_of self.now) at 2 }
-    {
-        let bytes = self.bytes.as_slice();
-        let i = (at - self.base) as usize;
-        u16::from_le_bytes([bytes[i], bytes[i + 1]])
-    }
-
-    fn word_at(&self, at: u64) -> u32
-        requires { InPage self.now at 4 }
-        ensures { result ≡ number_at (bytes_of self.now) at 4 }
-    {
-        let bytes = self.bytes.as_slice();
-        let i = (at - self.base) as usize;
-        u32::from_le_bytes([bytes[i], bytes[i + 1], bytes[i + 2], bytes[i + 3]])
-    }
-
-    fn double_at(&self, at: u64) -> u64
-        requires { InPage self.now at 8 }
-        ensures { result ≡ number_at (bytes_of self.now) at 8 }
-    {
-        let bytes = self.bytes.as_slice();
-        let i = (at - self.base) as usize;
-        u64::from_le_bytes([
-            bytes[i],
-            bytes[i + 1],
-            bytes[i + 2],
-            bytes[i + 3],
-            bytes[i + 4],
-            bytes[i + 5],
-            bytes[i + 6],
-            bytes[i + 7],
-        ])
-    }
-
     /// The number of 1, 2, 4 or 8 bytes in one page, the least byte first.
     pub fn number(&self, at: u64, width: u8) -> u64
         requires inside { InPage self.now at width }
@@ -311,22 +267,8 @@ impl GuestMemory {
         ensures value { result ≡ number_at (bytes_of self.now) at width }
         ensures below { result < 256 ^ width }
     {
-        match width {
-            1 => u64::from(self.byte_at(at)),
-            2 => u64::from(self.half_at(at)),
-            4 => u64::from(self.word_at(at)),
-            _ => self.double_at(at),
-        }
-    }
-
-    /// Writes bytes over those of one page.
-    #[inline(always)]
-    fn write(&mut self, at: u64, bytes: &[u8])
-        requires { InPage self.old at (length bytes.now) }
-        ensures { self.new ≡ record self.old { bytes = written_over self.old.bytes (at - self.old.base) bytes.now } }
-    {
-        let i = (at - self.base) as usize;
-        self.bytes[i..i + bytes.len()].copy_from_slice(bytes);
+        let first = (at - self.base) as usize;
+        number_of(&self.bytes[first..first + width as usize])
     }
 
     /// Puts a number of 1, 2, 4 or 8 bytes in one page, the least byte first, and touches the page.
@@ -361,14 +303,7 @@ impl GuestMemory {
         requires touched { is_touched self.old (page_of self.old at) ≡ true }
         ensures { self.new ≡ put_number self.old at width value }
     {
-        self.whole();
-        let digits = value.to_le_bytes();
-        match width {
-            1 => self.write(at, &digits[..1]),
-            2 => self.write(at, &digits[..2]),
-            4 => self.write(at, &digits[..4]),
-            _ => self.write(at, &digits),
-        }
+        write_low(&mut self.bytes, (at - self.base) as usize, width, value);
     }
 }
 

@@ -1,8 +1,12 @@
 //! Parts of lists.
 #![tactic(auto)]
 
-ghost use Rattle.std.specs.Prelude.{◌≡◌, ◌+◌, ◌<◌, ◌≤◌, ◌^◌, length, replicate, take, drop, vec_len};
-ghost use Rattle.guest_memory.specs.Lists.{count_true, filled};
+ghost use Rattle.std.specs.Prelude.{◌≡◌, IsTrue, ◌+◌, ◌<◌, ◌≤◌, ◌^◌, length, replicate, take, drop, vec_len};
+ghost use Rattle.uh_base.specs.Bytes.{is_width};
+ghost use Rattle.uh_base.specs.LittleEndian.{little_endian, low_bytes};
+ghost use Rattle.guest_memory.specs.Lists.{count_true, filled, written_over};
+
+use uh_base::{number_in, write_number};
 
 /// Writes one value at so many places from an index on.
 #[tactic(auto, using(crate::proofs::RunLemmas::spliced))]
@@ -45,4 +49,30 @@ fn count_marks(marks: &[bool]) -> u32
         }
     }
     count
+}
+
+/// Writes the 1, 2, 4 or 8 low bytes of a number from an index on, the least first.
+#[inline(always)]
+pub(crate) fn write_low(bytes: &mut Vec<u8>, first: usize, width: u8, value: u64)
+    requires inside { first + width ≤ vec_len bytes.old }
+    requires width { IsTrue (is_width width) }
+    ensures value { bytes.new.items ≡ written_over bytes.old.items first (low_bytes width value) }
+    ensures len { length bytes.new.items ≡ length bytes.old.items }
+{
+    match width {
+        1 => write_number(&mut bytes[first..first + 1], value),
+        2 => write_number(&mut bytes[first..first + 2], value),
+        4 => write_number(&mut bytes[first..first + 4], value),
+        _ => write_number(&mut bytes[first..first + 8], value),
+    }
+}
+
+/// The number that 1, 2, 4 or 8 bytes make, the least first.
+#[inline(always)]
+pub(crate) fn number_of(bytes: &[u8]) -> u64
+    requires { IsTrue (is_width (length bytes.now)) }
+    ensures value { result ≡ little_endian bytes.now }
+    ensures below { result < 256 ^ length bytes.now }
+{
+    number_in(bytes)
 }
