@@ -1,155 +1,282 @@
--- The word of an instruction decodes to it.
-use Rattle.std.proofs.Common.{◌≡◌, ℕ, zero, suc, ◌+◌, ◌/◌, ◌%◌, ◌^◌, ◌<◌, Bool, true, false, not, ◌&&◌, List, [], ◌∷◌, Some, refl, sym, subst, ◌∙◌, ap, arith, bit_and, map}
+-- The word of an instruction means it, and what a word of 32 bits means fits.
+use Rattle.std.proofs.Common.{◌≡◌, ℕ, zero, suc, pos, ◌+◌, ◌*◌, ◌/◌, ◌%◌, ◌^◌, ◌<◌, Bool, true, false, ◌&&◌, List, [], ◌∷◌, Option, Some, None, refl, sym, ◌∙◌, ap, arith, bit_and, map}
 use Rattle.std.specs.Prelude.{◌==◌, slice_get, if◌then◌else◌}
-use Rattle.std.proofs.lemmas.Bool.{eqb-true}
-use Rattle.rv_decode.specs.Rows.{Row, rows, holds_row, word_of}
-use Rattle.rv_decode.specs.Means.{decoded}
-use Rattle.rv_decode.specs.Views.{row_of, reads_of}
-use Rattle.rv_decode.specs.Packed.{packed, place_of, HasWord}
+use Rattle.std.proofs.lemmas.Bool.{eqb-true, eq-eqb}
+use Rattle.std.proofs.lemmas.Bool.Decides.{nat_tests}
+use Rattle.std.proofs.lemmas.Int.{ints}
+use Rattle.rv_decode.specs.Rows.{Row, Pattern, rows, holds_none, holds_row, word_of}
+use Rattle.rv_decode.specs.Fields.{signed}
+use Rattle.rv_decode.specs.Formats.{reads_of}
+use Rattle.rv_decode.specs.Means.{decoded, NamesRegisters}
+use Rattle.rv_decode.specs.Names.{place_of, format_of, format_in}
+use Rattle.rv_decode.specs.Fits.{fits, in_range, is_register, is_signed, is_shift, is_multiple, HasWord, FitsExactly}
+use Rattle.rv_decode.specs.Views.{row_of}
+use Rattle.rv_decode.specs.Packed.{packed}
 use Rattle.rv_decode.specs.declared.insn.Insn.{Insn}
 use Rattle.rv_decode.specs.declared.insn.Op.{Op}
 use Rattle.rv_decode.specs.declared.insn.Op.TheVariants as ops
 use Rattle.rv_decode.specs.declared.table.Row as code
 use Rattle.rv_decode.specs.declared.table.Format.{Format}
-use Rattle.rv_decode.specs.declared.table.Format.TheVariants.{I, U, J, B, S, Shift, ShiftW, R, Bare, Ciw, ClWord, ClDouble, CsWord, CsDouble, Ci, CiLoad, CiStack, CiUpper, CbShift, CbAnd, Ca, Cj, Cb, CiShift, CiWord, CiDouble, CrJump, CrLink, CrMove, CrAdd, CssWord, CssDouble}
+use Rattle.rv_decode.specs.declared.table.Format.TheVariants as formats
 use Rattle.rv_decode.specs.declared.table.TheConstants.{ROWS}
-use Rattle.rv_decode.proofs.RowLemmas.{rows-are, and_split, decoded_means}
-use Rattle.rv_decode.proofs.PackLemmas.{packs_i, packs_s, packs_b, packs_u, packs_j, packs_r, packs_shift, packs_shift_w, whole_mask}
+use Rattle.rv_decode.proofs.RowLemmas.{rows-are, and_split, decoded_means, means_decoded}
+use Rattle.rv_decode.proofs.PackedWords.{packs, Packs, is_shaped}
 
--- the format reads and packs with this mask
-abbrev pub is_packed : Format → Op → ℕ → ℕ → Bool
-is_packed I op mask value = mask == 28799
-is_packed U op mask value = mask == 127
-is_packed J op mask value = mask == 127
-is_packed B op mask value = mask == 28799
-is_packed S op mask value = mask == 28799
-is_packed Shift op mask value = mask == 4227887231
-is_packed ShiftW op mask value = mask == 4261441663
-is_packed R op mask value = mask == 4261441663
-is_packed Bare ops.Fence mask value = value == 15
-is_packed Bare op mask value = mask == 4294967295 && not (value == 15)
-is_packed format op mask value = false
+both : (a b : Bool) → a ≡ true → b ≡ true → (a && b) ≡ true
+both a b e f = rw (e, f) refl
 
--- a row of 32 bits stands at its name's place, with its format's mask
-abbrev pub is_placed : ℕ → code.Row → Bool
-is_placed i r = if r.6 == 4 then place_of r.4 == i && is_packed r.5 r.4 r.0 r.1 else true
+-- the row of the table at a row of the code
+pub listed : (rs : List code.Row) (i : ℕ) (r : code.Row) → slice_get rs i ≡ Some r → slice_get (map row_of rs) i ≡ Some (row_of r)
+listed [] i r g = cc
+listed (q ∷ rs) zero r g = let e : q ≡ r = cc in ap (λ x. Some (row_of x)) e
+listed (q ∷ rs) (suc i) r g = listed rs i r g
 
-abbrev pub are_placed : ℕ → List code.Row → Bool
+pub in_table : (i : ℕ) (r : code.Row) → slice_get ROWS i ≡ Some r → slice_get rows i ≡ Some (row_of r)
+in_table i r g = ap (λ rs. slice_get rs i) (sym rows-are) ∙ listed ROWS i r g
+
+-- the format of a name, from the code's row
+pub format_is : (op : Op) (r : code.Row) → slice_get ROWS (place_of op) ≡ Some r → r.5 ≡ format_of op
+unfolding format_of
+format_is op r g = sym (ap format_in (in_table (place_of op) r g))
+
+-- a name's row has 32 bits, excludes nothing, and has its format's mask
+abbrev is_long : Option Row → Bool
+is_long None = false
+is_long (Some row) = row.length == 4 && is_shaped row.format row.is.mask row.is.value
+
+abbrev names : Option Row → Option Op
+names None = None
+names (Some row) = Some row.op
+
+abbrev excludes : Option Row → List Pattern
+excludes None = []
+excludes (Some row) = row.but
+
+long : (op : Op) → is_long (slice_get rows (place_of op)) ≡ true
+unfolding rows
+long ops.Lui = refl
+long op = refl
+
+named : (op : Op) → names (slice_get rows (place_of op)) ≡ Some op
+unfolding rows
+named ops.Lui = refl
+named op = refl
+
+unexcluded : (op : Op) → excludes (slice_get rows (place_of op)) ≡ []
+unfolding rows
+unexcluded ops.Lui = refl
+unexcluded op = refl
+
+name_packs : (insn : Insn) (r : code.Row) (w : ℕ) → slice_get ROWS (place_of insn.op) ≡ Some r → w ≡ packed r.5 r.1 insn → fits insn ≡ true → Packs r.5 r.0 r.1 w insn
+unfolding fits
+name_packs insn r w g e h =
+    let at = in_table (place_of insn.op) r g in
+    let parts = and_split (r.6 == 4) _ (ap is_long (sym at) ∙ long insn.op) in
+    let range : in_range r.5 insn ≡ true = ap (λ f. in_range f insn) (format_is insn.op r g) ∙ h in
+    packs r.5 insn r.0 r.1 w parts.1 range e
+
+pub encodes : (insn : Insn) (r : code.Row) (w : ℕ) → slice_get ROWS (place_of insn.op) ≡ Some r → w ≡ packed r.5 r.1 insn → fits insn ≡ true
+    → decoded (w % 2 ^ 16) (w / 2 ^ 16) ≡ Some (insn, 4)
+encodes insn r w g e h =
+    let at = in_table (place_of insn.op) r g in
+    let parts = and_split (r.6 == 4) _ (ap is_long (sym at) ∙ long insn.op) in
+    let len : r.6 ≡ 4 = eqb-true _ _ parts.0 in
+    let name : Some r.4 ≡ Some insn.op = ap names (sym at) ∙ named insn.op in
+    let op : r.4 ≡ insn.op = cc in
+    let but : (row_of r).but ≡ [] = ap excludes (sym at) ∙ unexcluded insn.op in
+    let p = name_packs insn r w g e h in
+    let same : w % 2 ^ 16 + 2 ^ 16 * (w / 2 ^ 16) ≡ w = omega arith in
+    let is : bit_and w r.0 == r.1 ≡ true = eq-eqb _ _ p.bits in
+    let holds : holds_row (row_of r) w ≡ true = both _ _ is (ap (λ ps. holds_none ps w) but) in
+    let fields : reads_of r.5 r.4 w ≡ insn = ap (λ o. reads_of r.5 o w) op ∙ p.reads in
+    means_decoded _ _ insn 4 (
+      place_of insn.op,
+      row_of r,
+      record {
+        listed = at;
+        holds = ap (holds_row (row_of r)) same ∙ holds;
+        fields = sym (ap (reads_of r.5 r.4) same ∙ fields);
+        length = sym len;
+      },
+    )
+
+five : (n : ℕ) → is_register (n % 2 ^ 5) ≡ true
+five n = grind (arith, nat_tests)
+
+-- the ranges of numbers that are read
+range_12 : (n : ℕ) → n < 4096 → is_signed 12 (signed 12 n) ≡ true
+range_12 n h = grind (arith, ints, nat_tests)
+
+range_13 : (n : ℕ) → n < 8192 → is_signed 13 (signed 13 n) ≡ true
+range_13 n h = grind (arith, ints, nat_tests)
+
+range_21 : (n : ℕ) → n < 2097152 → is_signed 21 (signed 21 n) ≡ true
+range_21 n h = grind (arith, ints, nat_tests)
+
+range_32 : (n : ℕ) → n < 4294967296 → is_signed 32 (signed 32 n) ≡ true
+range_32 n h = grind (arith, ints, nat_tests)
+
+even_13 : (n : ℕ) → n < 8192 → n % 2 ≡ 0 → is_multiple 2 (signed 13 n) ≡ true
+even_13 n h e = grind (arith, ints, nat_tests)
+
+even_21 : (n : ℕ) → n < 2097152 → n % 2 ≡ 0 → is_multiple 2 (signed 21 n) ≡ true
+even_21 n h e = grind (arith, ints, nat_tests)
+
+page_32 : (n : ℕ) → n < 4294967296 → n % 4096 ≡ 0 → is_multiple 4096 (signed 32 n) ≡ true
+page_32 n h e = grind (arith, ints, nat_tests)
+
+shift_6 : (n : ℕ) → n < 64 → is_shift 64 (pos n) ≡ true
+shift_6 n h = grind (arith, ints, nat_tests)
+
+shift_5 : (n : ℕ) → n < 32 → is_shift 32 (pos n) ≡ true
+shift_5 n h = grind (arith, ints, nat_tests)
+
+-- what a format reads is in its ranges
+ranged_i : (w : ℕ) → (is_register (w / 2 ^ 7 % 2 ^ 5) && (is_register (w / 2 ^ 15 % 2 ^ 5) && is_signed 12 (signed 12 (w / 2 ^ 20 % 2 ^ 12 * 1 + 0)))) ≡ true
+ranged_i w = both _ _ (five (w / 2 ^ 7)) (both _ _ (five (w / 2 ^ 15)) (range_12 (w / 2 ^ 20 % 2 ^ 12 * 1 + 0) (omega arith)))
+
+ranged : (format : Format) (op : Op) (mask v w : ℕ) → is_shaped format mask v ≡ true → in_range format (reads_of format op w) ≡ true
+ranged formats.R op mask v w s = both _ _ (five (w / 2 ^ 7)) (both _ _ (five (w / 2 ^ 15)) (both _ _ (five (w / 2 ^ 20)) refl))
+ranged formats.I op mask v w s = ranged_i w
+ranged formats.IOffset op mask v w s = ranged_i w
+ranged formats.IShift op mask v w s = both _ _ (five (w / 2 ^ 7)) (both _ _ (five (w / 2 ^ 15)) (shift_6 (w / 2 ^ 20 % 2 ^ 6 * 1 + 0) (omega arith)))
+ranged formats.IShiftWord op mask v w s = both _ _ (five (w / 2 ^ 7)) (both _ _ (five (w / 2 ^ 15)) (shift_5 (w / 2 ^ 20 % 2 ^ 5 * 1 + 0) (omega arith)))
+ranged formats.S op mask v w s = both _ _ (five (w / 2 ^ 15)) (both _ _ (five (w / 2 ^ 20)) (range_12 (w / 2 ^ 25 % 2 ^ 7 * 2 ^ 5 + (w / 2 ^ 7 % 2 ^ 5 * 1 + 0)) (omega arith)))
+ranged formats.B op mask v w s =
+    let n = w / 2 ^ 31 % 2 ^ 1 * 2 ^ 12 + (w / 2 ^ 7 % 2 ^ 1 * 2 ^ 11 + (w / 2 ^ 25 % 2 ^ 6 * 2 ^ 5 + (w / 2 ^ 8 % 2 ^ 4 * 2 ^ 1 + 0))) in
+    both _ _ (five (w / 2 ^ 15)) (both _ _ (five (w / 2 ^ 20)) (both _ _ (range_13 n (omega arith)) (even_13 n (omega arith) (omega arith))))
+ranged formats.U op mask v w s =
+    let n = w / 2 ^ 12 % 2 ^ 20 * 2 ^ 12 + 0 in both _ _ (five (w / 2 ^ 7)) (both _ _ (range_32 n (omega arith)) (page_32 n (omega arith) (omega arith)))
+ranged formats.J op mask v w s =
+    let n = w / 2 ^ 31 % 2 ^ 1 * 2 ^ 20 + (w / 2 ^ 12 % 2 ^ 8 * 2 ^ 12 + (w / 2 ^ 20 % 2 ^ 1 * 2 ^ 11 + (w / 2 ^ 21 % 2 ^ 10 * 2 ^ 1 + 0))) in
+    both _ _ (five (w / 2 ^ 7)) (both _ _ (range_21 n (omega arith)) (even_21 n (omega arith) (omega arith)))
+ranged formats.Fence op mask v w s = refl
+ranged formats.Whole op mask v w s = refl
+ranged format op mask v w s = cc
+
+op_of : (format : Format) (op : Op) (w : ℕ) → (reads_of format op w).op ≡ op
+op_of formats.R op w = refl
+op_of format op w = refl
+
+-- each row of 32 bits stands at its name's number and has its format's mask
+abbrev is_placed : ℕ → Row → Bool
+is_placed i row = if row.length == 4 then place_of row.op == i && is_shaped row.format row.is.mask row.is.value else true
+
+abbrev are_placed : ℕ → List Row → Bool
 are_placed i [] = true
-are_placed i (r ∷ rs) = is_placed i r && are_placed (i + 1) rs
+are_placed i (row ∷ more) = is_placed i row && are_placed (i + 1) more
 
-are-placed : are_placed 0 ROWS ≡ true
+are-placed : are_placed 0 rows ≡ true
+unfolding rows
 are-placed = refl
 
-placed_at : (i k at : ℕ) (rs : List code.Row) (r : code.Row) → at ≡ i + k → are_placed i rs ≡ true → slice_get rs k ≡ Some r → is_placed at r ≡ true
-placed_at i k at [] r e h g = cc
-placed_at i zero at (q ∷ rs) r e h g =
+placed_at : (i k at : ℕ) (rs : List Row) (row : Row) → at ≡ i + k → are_placed i rs ≡ true → slice_get rs k ≡ Some row → is_placed at row ≡ true
+placed_at i k at [] row e h g = cc
+placed_at i zero at (q ∷ rs) row e h g =
     let same : at ≡ i = omega arith in
-    let is : q ≡ r = cc in
-    let parts = and_split (is_placed i q) _ h in ap (λ j. is_placed j r) same ∙ ap (is_placed i) (sym is) ∙ parts.0
-placed_at i (suc k) at (q ∷ rs) r e h g = let parts = and_split (is_placed i q) _ h in placed_at (i + 1) k at rs r (omega arith) parts.1 g
+    let is : q ≡ row = cc in
+    let parts = and_split (is_placed i q) _ h in ap (λ j. is_placed j row) same ∙ ap (is_placed i) (sym is) ∙ parts.0
+placed_at i (suc k) at (q ∷ rs) row e h g = let parts = and_split (is_placed i q) _ h in placed_at (i + 1) k at rs row (omega arith) parts.1 g
 
--- the code's row of a row of the table
-mapped_at : (rs : List code.Row) (i : ℕ) (row : Row) → slice_get (map row_of rs) i ≡ Some row → (r : code.Row) × (slice_get rs i ≡ Some r) × (row_of r ≡ row)
-mapped_at [] i row g = cc
-mapped_at (r ∷ rs) zero row g = (r, refl, cc)
-mapped_at (r ∷ rs) (suc i) row g = mapped_at rs i row g
+placed_parts : (i : ℕ) (row : Row) → is_placed i row ≡ true → row.length ≡ 4 → (place_of row.op ≡ i) × (is_shaped row.format row.is.mask row.is.value ≡ true)
+placed_parts i row h e =
+    let four : (row.length == 4) ≡ true = rw e refl in
+    let h2 : (place_of row.op == i && is_shaped row.format row.is.mask row.is.value) ≡ true = rw four at h in
+    let parts = and_split (place_of row.op == i) _ h2 in (eqb-true _ _ parts.0, parts.1)
 
-op_of : (f : Format) (op : Op) (w : ℕ) → (reads_of f op w).op ≡ op
-op_of I op w = refl
-op_of U op w = refl
-op_of J op w = refl
-op_of B op w = refl
-op_of S op w = refl
-op_of Shift op w = refl
-op_of ShiftW op w = refl
-op_of R op w = refl
-op_of Bare op w = refl
-op_of Ciw op w = refl
-op_of ClWord op w = refl
-op_of ClDouble op w = refl
-op_of CsWord op w = refl
-op_of CsDouble op w = refl
-op_of Ci op w = refl
-op_of CiLoad op w = refl
-op_of CiStack op w = refl
-op_of CiUpper op w = refl
-op_of CbShift op w = refl
-op_of CbAnd op w = refl
-op_of Ca op w = refl
-op_of Cj op w = refl
-op_of Cb op w = refl
-op_of CiShift op w = refl
-op_of CiWord op w = refl
-op_of CiDouble op w = refl
-op_of CrJump op w = refl
-op_of CrLink op w = refl
-op_of CrMove op w = refl
-op_of CrAdd op w = refl
-op_of CssWord op w = refl
-op_of CssDouble op w = refl
-
--- what the place and the mask of a row give
-placed_parts : (i : ℕ) (r : code.Row) → is_placed i r ≡ true → r.6 ≡ 4 → (place_of r.4 ≡ i) × (is_packed r.5 r.4 r.0 r.1 ≡ true)
-placed_parts i r h e =
-    let four : (r.6 == 4) ≡ true = rw e refl in
-    let h2 : (place_of r.4 == i && is_packed r.5 r.4 r.0 r.1) ≡ true = rw four at h in
-    let parts = and_split (place_of r.4 == i) _ h2 in (eqb-true _ _ parts.0, parts.1)
-
--- what a format packs has the reading
-abbrev pub Gives : ℕ → Insn → Type 0
-Gives word insn = decoded (word % 2 ^ 16) (word / 2 ^ 16) ≡ Some (insn, 4)
-
-same_word : (a w : ℕ) (insn : Insn) → a ≡ w → Gives w insn → Gives a insn
-same_word a w insn e h = ap (λ x. decoded (x % 2 ^ 16) (x / 2 ^ 16)) e ∙ h
-
-fence_word : (value w : ℕ) → value ≡ 15 → Gives (packed Bare value (reads_of Bare ops.Fence w)) (reads_of Bare ops.Fence w)
-unfolding decoded rows
-fence_word value w e = rw e refl
-
-bare_word : (value w : ℕ) (insn : Insn) → not (value == 15) ≡ true → value ≡ w → Gives w insn → Gives (packed Bare value insn) insn
-bare_word value w insn n e h =
-    let f : (value == 15) ≡ false = grind (arith) in
-    rw f (same_word value w insn e h)
-
-whole : (op : Op) (mask value w : ℕ) (insn : Insn) → w < 2 ^ 32 → (mask == 4294967295 && not (value == 15)) ≡ true → bit_and w mask ≡ value → Gives w insn → Gives (packed Bare value insn) insn
-whole op mask value w insn below t e h =
-    let s = and_split (mask == 4294967295) _ t in
-    let m : mask ≡ 4294967295 = eqb-true _ _ s.0 in
-    bare_word value w insn s.1 (sym e ∙ ap (bit_and w) m ∙ whole_mask w below) h
-
-packed_word : (f : Format) (op : Op) (mask value w : ℕ) → w < 2 ^ 32 → is_packed f op mask value ≡ true → bit_and w mask ≡ value → Gives w (reads_of f op w) → Gives (packed f value (reads_of f op w)) (reads_of f op w)
-packed_word I op mask value w below t e h = same_word _ _ _ (packs_i op w value below (ap (bit_and w) (sym (eqb-true _ _ t)) ∙ e)) h
-packed_word U op mask value w below t e h = same_word _ _ _ (packs_u op w value below (ap (bit_and w) (sym (eqb-true _ _ t)) ∙ e)) h
-packed_word J op mask value w below t e h = same_word _ _ _ (packs_j op w value below (ap (bit_and w) (sym (eqb-true _ _ t)) ∙ e)) h
-packed_word B op mask value w below t e h = same_word _ _ _ (packs_b op w value below (ap (bit_and w) (sym (eqb-true _ _ t)) ∙ e)) h
-packed_word S op mask value w below t e h = same_word _ _ _ (packs_s op w value below (ap (bit_and w) (sym (eqb-true _ _ t)) ∙ e)) h
-packed_word Shift op mask value w below t e h = same_word _ _ _ (packs_shift op w value below (ap (bit_and w) (sym (eqb-true _ _ t)) ∙ e)) h
-packed_word ShiftW op mask value w below t e h = same_word _ _ _ (packs_shift_w op w value below (ap (bit_and w) (sym (eqb-true _ _ t)) ∙ e)) h
-packed_word R op mask value w below t e h = same_word _ _ _ (packs_r op w value below (ap (bit_and w) (sym (eqb-true _ _ t)) ∙ e)) h
-packed_word Bare ops.Fence mask value w below t e h = fence_word value w (eqb-true _ _ t)
-packed_word Bare op mask value w below t e h = whole op mask value w (reads_of Bare op w) below t e h
-packed_word format op mask value w below t e h = cc
-
-pub encodes : (insn : Insn) (r : code.Row) (result : ℕ) → slice_get ROWS (place_of insn.op) ≡ Some r → result ≡ packed r.5 r.1 insn → HasWord insn → Gives result insn
-encodes insn r result g packs h =
+meant_fits : (insn : Insn) → HasWord insn → fits insn ≡ true
+unfolding fits format_of
+meant_fits insn h =
     let w = h.0 in
     let m = decoded_means (w % 2 ^ 16) (w / 2 ^ 16) insn 4 h.2 in
+    let row = m.1 in
     let means = m.2 in
-    let same : word_of (w % 2 ^ 16) (w / 2 ^ 16) ≡ w = omega arith in
-    let q = mapped_at ROWS m.0 m.1 (ap (λ rs. slice_get rs m.0) rows-are ∙ means.listed) in
-    let c = q.0 in
-    let len : c.6 ≡ 4 = ap (λ (x : Row). x.length) q.2 ∙ sym means.length in
-    let placed : is_placed m.0 c ≡ true = placed_at 0 m.0 m.0 ROWS c (omega arith) are-placed q.1 in
-    let parts = placed_parts m.0 c placed len in
-    let reads : insn ≡ reads_of c.5 c.4 w = means.reads ∙ ap (λ (x : Row). x.reads (word_of (w % 2 ^ 16) (w / 2 ^ 16))) (sym q.2) ∙ ap (reads_of c.5 c.4) same in
-    let op : insn.op ≡ c.4 = ap (λ (x : Insn). x.op) reads ∙ op_of c.5 c.4 w in
-    let at : place_of insn.op ≡ m.0 = ap place_of op ∙ parts.0 in
-    let found : Some r ≡ Some c = sym g ∙ ap (slice_get ROWS) at ∙ q.1 in
-    let is : r ≡ c = cc in
-    let holds : holds_row (row_of c) w ≡ true = ap (λ (x : Row). holds_row x w) q.2 ∙ ap (holds_row m.1) (sym same) ∙ means.holds in
-    let bits : bit_and w c.0 ≡ c.1 = eqb-true _ _ (and_split (bit_and w c.0 == c.1) _ holds).0 in
-    let word : Gives w (reads_of c.5 c.4 w) = subst (λ (i : Insn). Gives w i) reads h.2 in
-    let done : Gives (packed c.5 c.1 (reads_of c.5 c.4 w)) (reads_of c.5 c.4 w) = packed_word c.5 c.4 c.0 c.1 w h.1 parts.1 bits word in
-    let back : Gives (packed c.5 c.1 insn) insn = subst (λ (i : Insn). Gives (packed c.5 c.1 i) i) (sym reads) done in
-    same_word result _ insn (packs ∙ ap (λ (x : code.Row). packed x.5 x.1 insn) is) back
+    let parts = placed_parts m.0 row (placed_at 0 m.0 m.0 rows row (omega arith) are-placed means.listed) (sym means.length) in
+    let v = word_of (w % 2 ^ 16) (w / 2 ^ 16) in
+    let op : insn.op ≡ row.op = ap (λ (x : Insn). x.op) means.fields ∙ op_of row.format row.op v in
+    let at : slice_get rows (place_of insn.op) ≡ Some row = ap (λ o. slice_get rows (place_of o)) op ∙ ap (slice_get rows) parts.0 ∙ means.listed in
+    let format : format_in (slice_get rows (place_of insn.op)) ≡ row.format = ap format_in at in
+    ap (λ f. in_range f insn) format ∙ ap (in_range row.format) means.fields ∙ ranged row.format row.op row.is.mask row.is.value v parts.1
+
+-- the code's row of a name
+row_for : (op : Op) → (r : code.Row) × (slice_get ROWS (place_of op) ≡ Some r)
+row_for ops.Lui = (_, refl)
+row_for op = (_, refl)
+
+fit_meant : (insn : Insn) → fits insn ≡ true → HasWord insn
+fit_meant insn h =
+    let r = row_for insn.op in
+    let w = packed r.0.5 r.0.1 insn in
+    (w, (name_packs insn r.0 w r.1 refl h).below, encodes insn r.0 w r.1 refl h)
+
+pub fits_exactly : FitsExactly
+fits_exactly insn = (fit_meant insn, meant_fits insn)
+
+register_of : (n : ℕ) → is_register n ≡ true → n < 32
+register_of n h = grind (arith, nat_tests)
+
+none_of : (n : ℕ) → (n == 0) ≡ true → n < 32
+none_of n h = let e : n ≡ 0 = eqb-true _ _ h in omega arith
+
+-- an instruction that is in its format's ranges names registers
+in_range_names : (format : Format) (i : Insn) → in_range format i ≡ true → NamesRegisters i
+in_range_names formats.R i h =
+    let a = and_split (is_register i.rd) _ h in
+    let b = and_split (is_register i.rs1) _ a.1 in
+    let c = and_split (is_register i.rs2) _ b.1 in
+    record { rd = register_of _ a.0; rs1 = register_of _ b.0; rs2 = register_of _ c.0 }
+in_range_names formats.I i h =
+    let a = and_split (is_register i.rd) _ h in
+    let b = and_split (is_register i.rs1) _ a.1 in
+    let c = and_split (i.rs2 == 0) _ b.1 in
+    record { rd = register_of _ a.0; rs1 = register_of _ b.0; rs2 = none_of _ c.0 }
+in_range_names formats.IOffset i h =
+    let a = and_split (is_register i.rd) _ h in
+    let b = and_split (is_register i.rs1) _ a.1 in
+    let c = and_split (i.rs2 == 0) _ b.1 in
+    record { rd = register_of _ a.0; rs1 = register_of _ b.0; rs2 = none_of _ c.0 }
+in_range_names formats.IShift i h =
+    let a = and_split (is_register i.rd) _ h in
+    let b = and_split (is_register i.rs1) _ a.1 in
+    let c = and_split (i.rs2 == 0) _ b.1 in
+    record { rd = register_of _ a.0; rs1 = register_of _ b.0; rs2 = none_of _ c.0 }
+in_range_names formats.IShiftWord i h =
+    let a = and_split (is_register i.rd) _ h in
+    let b = and_split (is_register i.rs1) _ a.1 in
+    let c = and_split (i.rs2 == 0) _ b.1 in
+    record { rd = register_of _ a.0; rs1 = register_of _ b.0; rs2 = none_of _ c.0 }
+in_range_names formats.S i h =
+    let a = and_split (i.rd == 0) _ h in
+    let b = and_split (is_register i.rs1) _ a.1 in
+    let c = and_split (is_register i.rs2) _ b.1 in
+    record { rd = none_of _ a.0; rs1 = register_of _ b.0; rs2 = register_of _ c.0 }
+in_range_names formats.B i h =
+    let a = and_split (i.rd == 0) _ h in
+    let b = and_split (is_register i.rs1) _ a.1 in
+    let c = and_split (is_register i.rs2) _ b.1 in
+    record { rd = none_of _ a.0; rs1 = register_of _ b.0; rs2 = register_of _ c.0 }
+in_range_names formats.U i h =
+    let a = and_split (is_register i.rd) _ h in
+    let b = and_split (i.rs1 == 0) _ a.1 in
+    let c = and_split (i.rs2 == 0) _ b.1 in
+    record { rd = register_of _ a.0; rs1 = none_of _ b.0; rs2 = none_of _ c.0 }
+in_range_names formats.J i h =
+    let a = and_split (is_register i.rd) _ h in
+    let b = and_split (i.rs1 == 0) _ a.1 in
+    let c = and_split (i.rs2 == 0) _ b.1 in
+    record { rd = register_of _ a.0; rs1 = none_of _ b.0; rs2 = none_of _ c.0 }
+in_range_names formats.Fence i h =
+    let a = and_split (i.rd == 0) _ h in
+    let b = and_split (i.rs1 == 0) _ a.1 in
+    let c = and_split (i.rs2 == 0) _ b.1 in
+    record { rd = none_of _ a.0; rs1 = none_of _ b.0; rs2 = none_of _ c.0 }
+in_range_names formats.Whole i h =
+    let a = and_split (i.rd == 0) _ h in
+    let b = and_split (i.rs1 == 0) _ a.1 in
+    let c = and_split (i.rs2 == 0) _ b.1 in
+    record { rd = none_of _ a.0; rs1 = none_of _ b.0; rs2 = none_of _ c.0 }
+in_range_names format i h = cc
+
+pub fits_names : (i : Insn) → fits i ≡ true → NamesRegisters i
+unfolding fits
+fits_names i h = in_range_names (format_of i.op) i h

@@ -3,7 +3,7 @@ use Rattle.std.proofs.Common.{◌≡◌, ℕ, zero, suc, Bool, true, false, not,
 use Rattle.std.specs.Prelude.{◌==◌, ◌||◌, slice_get, cond}
 use Rattle.std.proofs.lemmas.Nat.{and_comm, and_assoc}
 use Rattle.std.proofs.lemmas.Bool.{eqb-true, eq-eqb}
-use Rattle.rv_decode.specs.Rows.{Row, Pattern, rows, holds, holds_none, holds_row, word_of}
+use Rattle.rv_decode.specs.Rows.{Row, Pattern, rows, holds, holds_none, holds_row, reads, word_of}
 use Rattle.rv_decode.specs.Means.{Means, first, decoded}
 use Rattle.rv_decode.specs.Views.{row_of}
 use Rattle.rv_decode.specs.declared.table.TheConstants.{ROWS}
@@ -95,22 +95,22 @@ apart_from_rows a (r ∷ rs) w zero b x g ha hb =
 apart_from_rows a (r ∷ rs) w (suc j) b x g ha hb = let s = and_split _ _ x in apart_from_rows a rs w j b s.1 g ha hb
 
 -- the row that holds is the first one
-pub first_found : (rs : List Row) (w : ℕ) (j : ℕ) (b : Row) → all_apart rs ≡ true → slice_get rs j ≡ Some b → holds_row b w ≡ true → first rs w ≡ Some (b.reads w, b.length)
+pub first_found : (rs : List Row) (w : ℕ) (j : ℕ) (b : Row) → all_apart rs ≡ true → slice_get rs j ≡ Some b → holds_row b w ≡ true → first rs w ≡ Some (reads b w, b.length)
 first_found [] w j b x g h = cc
 first_found (r ∷ rs) w zero b x g h =
     let e : r ≡ b = cc in
-    rw (ap (λ y. holds_row y w) e ∙ h) (ap (λ (y : Row). Some (y.reads w, y.length)) e)
+    rw (ap (λ y. holds_row y w) e ∙ h) (ap (λ (y : Row). Some (reads y w, y.length)) e)
 first_found (r ∷ rs) w (suc j) b x g h =
     let s = and_split _ _ x in
     let no : holds_row r w ≡ false = elim (holds_row r w) as (λ v. holds_row r w ≡ v → holds_row r w ≡ false) [ true ↦ λ (t : holds_row r w ≡ true). absurd (apart_from_rows r rs w j b s.0 g t h) | false ↦ λ f. f ] refl in
     rw no (first_found rs w j b s.1 g h)
 
 -- a row that is found first is listed and holds
-pub first_means : (rs : List Row) (w : ℕ) (insn : Insn) (len : ℕ) → first rs w ≡ Some (insn, len) → (i : ℕ) × (row : Row) × (slice_get rs i ≡ Some row) × (holds_row row w ≡ true) × (insn ≡ row.reads w) × (len ≡ row.length)
+pub first_means : (rs : List Row) (w : ℕ) (insn : Insn) (len : ℕ) → first rs w ≡ Some (insn, len) → (i : ℕ) × (row : Row) × (slice_get rs i ≡ Some row) × (holds_row row w ≡ true) × (insn ≡ reads row w) × (len ≡ row.length)
 first_means [] w insn len h = cc
 first_means (r ∷ rs) w insn len h =
-    elim (holds_row r w) as (λ v. holds_row r w ≡ v → cond v (Some (r.reads w, r.length)) (first rs w) ≡ Some (insn, len) → (i : ℕ) × (row : Row) × (slice_get (r ∷ rs) i ≡ Some row) × (holds_row row w ≡ true) × (insn ≡ row.reads w) × (len ≡ row.length)) [
-      | true ↦ λ t e. (let p : (r.reads w, r.length) ≡ (insn, len) = cc in (0, r, refl, t, sym (ap (λ (x : Insn × ℕ). x.0) p), sym (ap (λ (x : Insn × ℕ). x.1) p)))
+    elim (holds_row r w) as (λ v. holds_row r w ≡ v → cond v (Some (reads r w, r.length)) (first rs w) ≡ Some (insn, len) → (i : ℕ) × (row : Row) × (slice_get (r ∷ rs) i ≡ Some row) × (holds_row row w ≡ true) × (insn ≡ reads row w) × (len ≡ row.length)) [
+      | true ↦ λ t e. (let p : (reads r w, r.length) ≡ (insn, len) = cc in (0, r, refl, t, sym (ap (λ (x : Insn × ℕ). x.0) p), sym (ap (λ (x : Insn × ℕ). x.1) p)))
       | false ↦ λ t e. let x = first_means rs w insn len e in (suc x.0, x.1, x.2, x.3, x.4, x.5)
     ] refl h
 
@@ -118,13 +118,13 @@ pub decoded_means : (half0 half1 : ℕ) (insn : Insn) (len : ℕ) → decoded ha
 unfolding decoded
 decoded_means half0 half1 insn len h =
     let x = first_means rows (word_of half0 half1) insn len h in
-    (x.0, x.1, record { listed = x.2; holds = x.3; reads = x.4; length = x.5 })
+    (x.0, x.1, record { listed = x.2; holds = x.3; fields = x.4; length = x.5 })
 
 pub means_decoded : (half0 half1 : ℕ) (insn : Insn) (len : ℕ) → Means half0 half1 insn len → decoded half0 half1 ≡ Some (insn, len)
 unfolding decoded
 means_decoded half0 half1 insn len m =
     let x = m.2 in
-    first_found rows (word_of half0 half1) m.0 m.1 rows-apart x.listed x.holds ∙ (let e1 = x.reads in let e2 = x.length in cc)
+    first_found rows (word_of half0 half1) m.0 m.1 rows-apart x.listed x.holds ∙ (let e1 = x.fields in let e2 = x.length in cc)
 
 pub one_row : (rs : List Row) (w : ℕ) (i j : ℕ) (a b : Row) → all_apart rs ≡ true → slice_get rs i ≡ Some a → slice_get rs j ≡ Some b → holds_row a w ≡ true → holds_row b w ≡ true → i ≡ j
 one_row [] w i j a b x gi gj ha hb = cc

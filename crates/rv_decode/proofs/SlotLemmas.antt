@@ -5,7 +5,7 @@ use Rattle.std.proofs.lemmas.Nat.{and_mask, and_block}
 use Rattle.std.proofs.lemmas.List.{take-map, drop-map, drop-drop}
 use Rattle.std.proofs.lemmas.Bool.{eq-eqb}
 use Rattle.std.proofs.lemmas.Bool.Decides.{nat_tests}
-use Rattle.rv_decode.specs.Rows.{Row, Pattern, rows, holds, holds_row}
+use Rattle.rv_decode.specs.Rows.{Row, Pattern, rows, holds, holds_row, reads}
 use Rattle.rv_decode.specs.Slots.{slot_pattern}
 use Rattle.rv_decode.specs.Means.{first}
 use Rattle.rv_decode.specs.Views.{row_of}
@@ -67,7 +67,7 @@ front_out p (suc n) (r ∷ rs) w c h =
 end_out : (p : Pattern) (n : ℕ) (rs : List Row) (w : ℕ) → all_conflict p (drop n rs) ≡ true → holds p w ≡ true → first (take n rs) w ≡ first rs w
 end_out p zero rs w c h = sym (none_first p rs w c h)
 end_out p (suc n) [] w c h = refl
-end_out p (suc n) (r ∷ rs) w c h = ap (cond (holds_row r w) (Some (r.reads w, r.length))) (end_out p n rs w c h)
+end_out p (suc n) (r ∷ rs) w c h = ap (cond (holds_row r w) (Some (reads r w, r.length))) (end_out p n rs w c h)
 
 -- the part of a slot as numbers of the index
 pub part_bounds : (slot : ℕ) → slot < 280 → (get_or FROM slot 0 ≤ get_or TO slot 0) × (get_or TO slot 0 ≤ 97)
@@ -86,8 +86,8 @@ part_first slot w below h =
     let right : slot_is_right rows slot low high ≡ true = right_at slot below in
     let bounds = part_bounds slot below in
     let a = and_split (nat_le low high) _ right in
-    let b = and_split _ _ a.1 in
-    let c = and_split _ _ b.1 in
+    let b = and_split (nat_le high 97) _ a.1 in
+    let c = and_split (all_conflict (slot_pattern slot) (take low rows)) _ b.1 in
     let n : low + (high - low) ≡ high = omega (arith, bounds.0) in
     let part : map row_of (take (high - low) (drop low ROWS)) ≡ take (high - low) (drop low rows) =
     sym (take-map row_of (high - low) (drop low ROWS)) ∙ ap (take (high - low)) (sym (drop-map row_of low ROWS) ∙ ap (drop low) rows-are) in

@@ -1,21 +1,26 @@
--- The rows of the instruction table: which bits an instruction has, and where its fields are.
-use Rattle.std.specs.Prelude.{ℕ, pos, ◌+◌, ◌*◌, ◌^◌, ◌==◌, bit_and, Bool, true, not, ◌&&◌, List, [], ◌∷◌}
-use Rattle.rv_decode.specs.Fields.{field, short, imm_i, imm_s, imm_b, imm_u, imm_j, shamt_6, shamt_5, imm_ciw, imm_word, imm_double, imm_ci, imm_stack, imm_upper, shamt_c, imm_cj, imm_cb, imm_load_word, imm_load_double, imm_store_word, imm_store_double}
+-- The rows of the instruction table: which bits a word of each instruction has. The names stand in the order of `Op`,
+-- by major opcode, and 16-bit rows behind them by quadrant. (RISC-V unprivileged manual, version 20191213, chapter 24,
+-- tables 24.1 and 24.2; 16.8, tables 16.5 to 16.7)
+use Rattle.std.specs.Prelude.{ℕ, ◌+◌, ◌-◌, ◌*◌, ◌^◌, ◌==◌, bit_and, Bool, true, not, ◌&&◌, List, [], ◌∷◌}
+use Rattle.rv_decode.specs.Formats.{reads_of}
+use Rattle.rv_decode.specs.declared.insn.Insn.{Insn}
 use Rattle.rv_decode.specs.declared.insn.Op.{Op}
 use Rattle.rv_decode.specs.declared.insn.Op.TheVariants.{Lui, Auipc, Jal, Jalr, Beq, Bne, Blt, Bge, Bltu, Bgeu, Lb, Lh, Lw, Ld, Lbu, Lhu, Lwu, Sb, Sh, Sw, Sd, Addi, Slli, Slti, Sltiu, Xori, Srli, Srai, Ori, Andi, Addiw, Slliw, Srliw, Sraiw, Add, Sub, Mul, Sll, Mulh, Slt, Mulhsu, Sltu, Mulhu, Xor, Div, Srl, Sra, Divu, Or, Rem, And, Remu, Addw, Subw, Mulw, Sllw, Divw, Srlw, Sraw, Divuw, Remw, Remuw, Fence, Ecall, Ebreak}
-use Rattle.rv_decode.specs.declared.insn.Insn.{Insn}
+use Rattle.rv_decode.specs.declared.table.Format.{Format}
+use Rattle.rv_decode.specs.declared.table.Format.TheVariants as formats
 
--- the bits of the mask have this value
+-- The bits of the mask have this value.
 pub record Pattern : Type 0 where
   pub mask : ℕ
   pub value : ℕ
 
--- A row holds of a word that has its pattern and none of the others. `reads` are the fields at a word.
+-- A row holds of a word that has its pattern and none of the excluded ones.
 pub record Row : Type 0 where
+  pub op : Op
   pub is : Pattern
   pub but : List Pattern
   pub length : ℕ
-  pub reads : ℕ → Insn
+  pub format : Format
 
 abbrev pub holds : Pattern → ℕ → Bool
 holds pattern word = bit_and word pattern.mask == pattern.value
@@ -27,232 +32,226 @@ holds_none (pattern ∷ patterns) word = not (holds pattern word) && holds_none 
 abbrev pub holds_row : Row → ℕ → Bool
 holds_row row word = holds row.is word && holds_none row.but word
 
--- the two halves as one word
+-- the instruction that a row reads
+abbrev pub reads : Row → ℕ → Insn
+reads row word = reads_of row.format row.op word
+
+-- The two halves as one word. Rows of 16 bits have patterns in the first half alone.
 abbrev pub word_of : ℕ → ℕ → ℕ
 word_of half0 half1 = half0 + 2 ^ 16 * half1
 
--- The formats.
-abbrev pub reads_i : Op → ℕ → Insn
-reads_i op word = record { op = op; rd = field word 7 5; rs1 = field word 15 5; rs2 = 0; imm = imm_i word }
+-- so many bits from bit `low` on have this value
+abbrev pub at : (low count value : ℕ) → Pattern
+at low count value = record { mask = (2 ^ count - 1) * 2 ^ low; value = value * 2 ^ low }
 
-abbrev pub reads_u : Op → ℕ → Insn
-reads_u op word = record { op = op; rd = field word 7 5; rs1 = 0; rs2 = 0; imm = imm_u word }
+-- all of these fields have their values
+abbrev pub all : List Pattern → Pattern
+all [] = record { mask = 0; value = 0 }
+all (pattern ∷ patterns) = record { mask = pattern.mask + (all patterns).mask; value = pattern.value + (all patterns).value }
 
-abbrev pub reads_j : Op → ℕ → Insn
-reads_j op word = record { op = op; rd = field word 7 5; rs1 = 0; rs2 = 0; imm = imm_j word }
+abbrev pub opcode : ℕ → Pattern
+opcode n = at 0 7 n
 
-abbrev pub reads_b : Op → ℕ → Insn
-reads_b op word = record { op = op; rd = 0; rs1 = field word 15 5; rs2 = field word 20 5; imm = imm_b word }
+abbrev pub funct3 : ℕ → Pattern
+funct3 n = at 12 3 n
 
-abbrev pub reads_s : Op → ℕ → Insn
-reads_s op word = record { op = op; rd = 0; rs1 = field word 15 5; rs2 = field word 20 5; imm = imm_s word }
+abbrev pub funct7 : ℕ → Pattern
+funct7 n = at 25 7 n
 
-abbrev pub reads_shift : Op → ℕ → Insn
-reads_shift op word = record { op = op; rd = field word 7 5; rs1 = field word 15 5; rs2 = 0; imm = shamt_6 word }
+-- funct7 without its lowest bit, which is the highest of a shift amount of 6 bits
+abbrev pub funct6 : ℕ → Pattern
+funct6 n = at 26 6 n
 
-abbrev pub reads_shift_w : Op → ℕ → Insn
-reads_shift_w op word = record { op = op; rd = field word 7 5; rs1 = field word 15 5; rs2 = 0; imm = shamt_5 word }
+-- a row of 32 bits
+abbrev pub row : Op → Format → List Pattern → Row
+row op format fields = record { op = op; is = all fields; but = []; length = 4; format = format }
 
-abbrev pub reads_r : Op → ℕ → Insn
-reads_r op word = record { op = op; rd = field word 7 5; rs1 = field word 15 5; rs2 = field word 20 5; imm = pos 0 }
+abbrev pub u_type : Op → ℕ → Row
+u_type op code = row op formats.U (opcode code ∷ [])
 
-abbrev pub reads_bare : Op → ℕ → Insn
-reads_bare op word = record { op = op; rd = 0; rs1 = 0; rs2 = 0; imm = pos 0 }
+abbrev pub j_type : Op → ℕ → Row
+j_type op code = row op formats.J (opcode code ∷ [])
 
-abbrev pub reads_ciw : Op → ℕ → Insn
-reads_ciw op word = record { op = op; rd = short word 2; rs1 = 2; rs2 = 0; imm = imm_ciw word }
+abbrev pub i_type : Op → (code funct : ℕ) → Row
+i_type op code funct = row op formats.I (opcode code ∷ funct3 funct ∷ [])
 
-abbrev pub reads_cl_word : Op → ℕ → Insn
-reads_cl_word op word = record { op = op; rd = short word 2; rs1 = short word 7; rs2 = 0; imm = imm_word word }
+abbrev pub i_offset : Op → (code funct : ℕ) → Row
+i_offset op code funct = row op formats.IOffset (opcode code ∷ funct3 funct ∷ [])
 
-abbrev pub reads_cl_double : Op → ℕ → Insn
-reads_cl_double op word = record { op = op; rd = short word 2; rs1 = short word 7; rs2 = 0; imm = imm_double word }
+abbrev pub i_shift : Op → (code funct upper : ℕ) → Row
+i_shift op code funct upper = row op formats.IShift (opcode code ∷ funct3 funct ∷ funct6 upper ∷ [])
 
-abbrev pub reads_cs_word : Op → ℕ → Insn
-reads_cs_word op word = record { op = op; rd = 0; rs1 = short word 7; rs2 = short word 2; imm = imm_word word }
+abbrev pub i_shift_word : Op → (code funct upper : ℕ) → Row
+i_shift_word op code funct upper = row op formats.IShiftWord (opcode code ∷ funct3 funct ∷ funct7 upper ∷ [])
 
-abbrev pub reads_cs_double : Op → ℕ → Insn
-reads_cs_double op word = record { op = op; rd = 0; rs1 = short word 7; rs2 = short word 2; imm = imm_double word }
+abbrev pub s_type : Op → (code funct : ℕ) → Row
+s_type op code funct = row op formats.S (opcode code ∷ funct3 funct ∷ [])
 
-abbrev pub reads_ci : Op → ℕ → Insn
-reads_ci op word = record { op = op; rd = field word 7 5; rs1 = field word 7 5; rs2 = 0; imm = imm_ci word }
+abbrev pub b_type : Op → (code funct : ℕ) → Row
+b_type op code funct = row op formats.B (opcode code ∷ funct3 funct ∷ [])
 
-abbrev pub reads_ci_load : Op → ℕ → Insn
-reads_ci_load op word = record { op = op; rd = field word 7 5; rs1 = 0; rs2 = 0; imm = imm_ci word }
+abbrev pub r_type : Op → (code funct upper : ℕ) → Row
+r_type op code funct upper = row op formats.R (opcode code ∷ funct3 funct ∷ funct7 upper ∷ [])
 
-abbrev pub reads_ci_stack : Op → ℕ → Insn
-reads_ci_stack op word = record { op = op; rd = 2; rs1 = 2; rs2 = 0; imm = imm_stack word }
+-- A row of 16 bits, by its quadrant (bits 1 and 0), the number in bits 15 to 13, further fields, and what is excluded.
+abbrev pub half : Op → Format → (quadrant funct : ℕ) → List Pattern → List Pattern → Row
+half op format quadrant funct fields but =
+    record { op = op; is = all (at 0 2 quadrant ∷ at 13 3 funct ∷ fields); but = but; length = 2; format = format }
 
-abbrev pub reads_ci_upper : Op → ℕ → Insn
-reads_ci_upper op word = record { op = op; rd = field word 7 5; rs1 = 0; rs2 = 0; imm = imm_upper word }
+-- The major opcodes. (table 24.1)
+abbrev pub LUI : ℕ
+LUI = 0x37
 
-abbrev pub reads_cb_shift : Op → ℕ → Insn
-reads_cb_shift op word = record { op = op; rd = short word 7; rs1 = short word 7; rs2 = 0; imm = shamt_c word }
+abbrev pub AUIPC : ℕ
+AUIPC = 0x17
 
-abbrev pub reads_cb_and : Op → ℕ → Insn
-reads_cb_and op word = record { op = op; rd = short word 7; rs1 = short word 7; rs2 = 0; imm = imm_ci word }
+abbrev pub JAL : ℕ
+JAL = 0x6f
 
-abbrev pub reads_ca : Op → ℕ → Insn
-reads_ca op word = record { op = op; rd = short word 7; rs1 = short word 7; rs2 = short word 2; imm = pos 0 }
+abbrev pub JALR : ℕ
+JALR = 0x67
 
-abbrev pub reads_cj : Op → ℕ → Insn
-reads_cj op word = record { op = op; rd = 0; rs1 = 0; rs2 = 0; imm = imm_cj word }
+abbrev pub BRANCH : ℕ
+BRANCH = 0x63
 
-abbrev pub reads_cb : Op → ℕ → Insn
-reads_cb op word = record { op = op; rd = 0; rs1 = short word 7; rs2 = 0; imm = imm_cb word }
+abbrev pub LOAD : ℕ
+LOAD = 0x03
 
-abbrev pub reads_ci_shift : Op → ℕ → Insn
-reads_ci_shift op word = record { op = op; rd = field word 7 5; rs1 = field word 7 5; rs2 = 0; imm = shamt_c word }
+abbrev pub STORE : ℕ
+STORE = 0x23
 
-abbrev pub reads_ci_word : Op → ℕ → Insn
-reads_ci_word op word = record { op = op; rd = field word 7 5; rs1 = 2; rs2 = 0; imm = imm_load_word word }
+abbrev pub OP_IMM : ℕ
+OP_IMM = 0x13
 
-abbrev pub reads_ci_double : Op → ℕ → Insn
-reads_ci_double op word = record { op = op; rd = field word 7 5; rs1 = 2; rs2 = 0; imm = imm_load_double word }
+abbrev pub OP_IMM_32 : ℕ
+OP_IMM_32 = 0x1b
 
-abbrev pub reads_cr_jump : Op → ℕ → Insn
-reads_cr_jump op word = record { op = op; rd = 0; rs1 = field word 7 5; rs2 = 0; imm = pos 0 }
+abbrev pub OP : ℕ
+OP = 0x33
 
-abbrev pub reads_cr_link : Op → ℕ → Insn
-reads_cr_link op word = record { op = op; rd = 1; rs1 = field word 7 5; rs2 = 0; imm = pos 0 }
+abbrev pub OP_32 : ℕ
+OP_32 = 0x3b
 
-abbrev pub reads_cr_move : Op → ℕ → Insn
-reads_cr_move op word = record { op = op; rd = field word 7 5; rs1 = 0; rs2 = field word 2 5; imm = pos 0 }
+abbrev pub MISC_MEM : ℕ
+MISC_MEM = 0x0f
 
-abbrev pub reads_cr_add : Op → ℕ → Insn
-reads_cr_add op word = record { op = op; rd = field word 7 5; rs1 = field word 7 5; rs2 = field word 2 5; imm = pos 0 }
-
-abbrev pub reads_css_word : Op → ℕ → Insn
-reads_css_word op word = record { op = op; rd = 0; rs1 = 2; rs2 = field word 2 5; imm = imm_store_word word }
-
-abbrev pub reads_css_double : Op → ℕ → Insn
-reads_css_double op word = record { op = op; rd = 0; rs1 = 2; rs2 = field word 2 5; imm = imm_store_double word }
-
-abbrev pub pattern : ℕ → ℕ → Pattern
-pattern mask value = record { mask = mask; value = value }
-
--- these bits are 0
-abbrev pub all_zero : ℕ → Pattern
-all_zero mask = pattern mask 0
-
--- a row of the opcode, and of the opcode with the number in bits 14 to 12 and those above
-abbrev pub opcode_row : (Op → ℕ → Insn) → Op → ℕ → Row
-opcode_row reads op opcode = record { is = pattern 0x7f opcode; but = []; length = 4; reads = reads op }
-
-abbrev pub funct3_row : (Op → ℕ → Insn) → Op → ℕ → ℕ → Row
-funct3_row reads op opcode funct3 = record { is = pattern 0x707f (funct3 * 2 ^ 12 + opcode); but = []; length = 4; reads = reads op }
-
-abbrev pub funct7_row : (Op → ℕ → Insn) → Op → ℕ → ℕ → ℕ → Row
-funct7_row reads op opcode funct3 funct7 = record { is = pattern 0xfe00707f (funct7 * 2 ^ 25 + funct3 * 2 ^ 12 + opcode); but = []; length = 4; reads = reads op }
-
-abbrev pub funct6_row : (Op → ℕ → Insn) → Op → ℕ → ℕ → ℕ → Row
-funct6_row reads op opcode funct3 funct6 = record { is = pattern 0xfc00707f (funct6 * 2 ^ 26 + funct3 * 2 ^ 12 + opcode); but = []; length = 4; reads = reads op }
-
--- a row of a whole word
-abbrev pub whole_row : Op → ℕ → Row
-whole_row op word = record { is = pattern 0xffff_ffff word; but = []; length = 4; reads = reads_bare op }
-
--- a row of 16 bits, with patterns that it excludes
-abbrev pub half_row : (Op → ℕ → Insn) → Op → ℕ → ℕ → List Pattern → Row
-half_row reads op mask value but = record { is = pattern mask value; but = but; length = 2; reads = reads op }
+abbrev pub SYSTEM : ℕ
+SYSTEM = 0x73
 
 unfoldable pub rows : List Row
 rows =
-    opcode_row reads_u Lui 0x37 ∷
-    opcode_row reads_u Auipc 0x17 ∷
-    opcode_row reads_j Jal 0x6f ∷
-    funct3_row reads_i Jalr 0x67 0 ∷
-    funct3_row reads_b Beq 0x63 0 ∷
-    funct3_row reads_b Bne 0x63 1 ∷
-    funct3_row reads_b Blt 0x63 4 ∷
-    funct3_row reads_b Bge 0x63 5 ∷
-    funct3_row reads_b Bltu 0x63 6 ∷
-    funct3_row reads_b Bgeu 0x63 7 ∷
-    funct3_row reads_i Lb 0x3 0 ∷
-    funct3_row reads_i Lh 0x3 1 ∷
-    funct3_row reads_i Lw 0x3 2 ∷
-    funct3_row reads_i Ld 0x3 3 ∷
-    funct3_row reads_i Lbu 0x3 4 ∷
-    funct3_row reads_i Lhu 0x3 5 ∷
-    funct3_row reads_i Lwu 0x3 6 ∷
-    funct3_row reads_s Sb 0x23 0 ∷
-    funct3_row reads_s Sh 0x23 1 ∷
-    funct3_row reads_s Sw 0x23 2 ∷
-    funct3_row reads_s Sd 0x23 3 ∷
-    funct3_row reads_i Addi 0x13 0 ∷
-    funct6_row reads_shift Slli 0x13 1 0x0 ∷
-    funct3_row reads_i Slti 0x13 2 ∷
-    funct3_row reads_i Sltiu 0x13 3 ∷
-    funct3_row reads_i Xori 0x13 4 ∷
-    funct6_row reads_shift Srli 0x13 5 0x0 ∷
-    funct6_row reads_shift Srai 0x13 5 0x10 ∷
-    funct3_row reads_i Ori 0x13 6 ∷
-    funct3_row reads_i Andi 0x13 7 ∷
-    funct3_row reads_i Addiw 0x1b 0 ∷
-    funct7_row reads_shift_w Slliw 0x1b 1 0x0 ∷
-    funct7_row reads_shift_w Srliw 0x1b 5 0x0 ∷
-    funct7_row reads_shift_w Sraiw 0x1b 5 0x20 ∷
-    funct7_row reads_r Add 0x33 0 0x0 ∷
-    funct7_row reads_r Sub 0x33 0 0x20 ∷
-    funct7_row reads_r Mul 0x33 0 0x1 ∷
-    funct7_row reads_r Sll 0x33 1 0x0 ∷
-    funct7_row reads_r Mulh 0x33 1 0x1 ∷
-    funct7_row reads_r Slt 0x33 2 0x0 ∷
-    funct7_row reads_r Mulhsu 0x33 2 0x1 ∷
-    funct7_row reads_r Sltu 0x33 3 0x0 ∷
-    funct7_row reads_r Mulhu 0x33 3 0x1 ∷
-    funct7_row reads_r Xor 0x33 4 0x0 ∷
-    funct7_row reads_r Div 0x33 4 0x1 ∷
-    funct7_row reads_r Srl 0x33 5 0x0 ∷
-    funct7_row reads_r Sra 0x33 5 0x20 ∷
-    funct7_row reads_r Divu 0x33 5 0x1 ∷
-    funct7_row reads_r Or 0x33 6 0x0 ∷
-    funct7_row reads_r Rem 0x33 6 0x1 ∷
-    funct7_row reads_r And 0x33 7 0x0 ∷
-    funct7_row reads_r Remu 0x33 7 0x1 ∷
-    funct7_row reads_r Addw 0x3b 0 0x0 ∷
-    funct7_row reads_r Subw 0x3b 0 0x20 ∷
-    funct7_row reads_r Mulw 0x3b 0 0x1 ∷
-    funct7_row reads_r Sllw 0x3b 1 0x0 ∷
-    funct7_row reads_r Divw 0x3b 4 0x1 ∷
-    funct7_row reads_r Srlw 0x3b 5 0x0 ∷
-    funct7_row reads_r Sraw 0x3b 5 0x20 ∷
-    funct7_row reads_r Divuw 0x3b 5 0x1 ∷
-    funct7_row reads_r Remw 0x3b 6 0x1 ∷
-    funct7_row reads_r Remuw 0x3b 7 0x1 ∷
-    funct3_row reads_bare Fence 0xf 0 ∷
-    whole_row Ecall 0x73 ∷
-    whole_row Ebreak 0x100073 ∷
-    half_row reads_ciw Addi 0xe003 0x0 (all_zero 0x1fe0 ∷ []) ∷
-    half_row reads_cl_word Lw 0xe003 0x4000 [] ∷
-    half_row reads_cl_double Ld 0xe003 0x6000 [] ∷
-    half_row reads_cs_word Sw 0xe003 0xc000 [] ∷
-    half_row reads_cs_double Sd 0xe003 0xe000 [] ∷
-    half_row reads_ci Addi 0xe003 0x1 [] ∷
-    half_row reads_ci Addiw 0xe003 0x2001 (all_zero 0xf80 ∷ []) ∷
-    half_row reads_ci_load Addi 0xe003 0x4001 [] ∷
-    half_row reads_ci_stack Addi 0xef83 0x6101 (all_zero 0x107c ∷ []) ∷
-    half_row reads_ci_upper Lui 0xe003 0x6001 (pattern 0xf80 0x100 ∷ all_zero 0x107c ∷ []) ∷
-    half_row reads_cb_shift Srli 0xec03 0x8001 [] ∷
-    half_row reads_cb_shift Srai 0xec03 0x8401 [] ∷
-    half_row reads_cb_and Andi 0xec03 0x8801 [] ∷
-    half_row reads_ca Sub 0xfc63 0x8c01 [] ∷
-    half_row reads_ca Xor 0xfc63 0x8c21 [] ∷
-    half_row reads_ca Or 0xfc63 0x8c41 [] ∷
-    half_row reads_ca And 0xfc63 0x8c61 [] ∷
-    half_row reads_ca Subw 0xfc63 0x9c01 [] ∷
-    half_row reads_ca Addw 0xfc63 0x9c21 [] ∷
-    half_row reads_cj Jal 0xe003 0xa001 [] ∷
-    half_row reads_cb Beq 0xe003 0xc001 [] ∷
-    half_row reads_cb Bne 0xe003 0xe001 [] ∷
-    half_row reads_ci_shift Slli 0xe003 0x2 [] ∷
-    half_row reads_ci_word Lw 0xe003 0x4002 (all_zero 0xf80 ∷ []) ∷
-    half_row reads_ci_double Ld 0xe003 0x6002 (all_zero 0xf80 ∷ []) ∷
-    half_row reads_cr_jump Jalr 0xf07f 0x8002 (all_zero 0xf80 ∷ []) ∷
-    half_row reads_cr_move Add 0xf003 0x8002 (all_zero 0x7c ∷ []) ∷
-    half_row reads_bare Ebreak 0xffff 0x9002 [] ∷
-    half_row reads_cr_link Jalr 0xf07f 0x9002 (all_zero 0xf80 ∷ []) ∷
-    half_row reads_cr_add Add 0xf003 0x9002 (all_zero 0x7c ∷ []) ∷
-    half_row reads_css_word Sw 0xe003 0xc002 [] ∷
-    half_row reads_css_double Sd 0xe003 0xe002 [] ∷
+    -- Integer register-immediate instructions of U-type (2.4)
+    u_type Lui LUI ∷
+    u_type Auipc AUIPC ∷
+    -- Unconditional jumps (2.5)
+    j_type Jal JAL ∷
+    i_offset Jalr JALR 0 ∷
+    -- Conditional branches (2.5)
+    b_type Beq BRANCH 0 ∷
+    b_type Bne BRANCH 1 ∷
+    b_type Blt BRANCH 4 ∷
+    b_type Bge BRANCH 5 ∷
+    b_type Bltu BRANCH 6 ∷
+    b_type Bgeu BRANCH 7 ∷
+    -- Loads (2.6 and 5.3)
+    i_offset Lb LOAD 0 ∷
+    i_offset Lh LOAD 1 ∷
+    i_offset Lw LOAD 2 ∷
+    i_offset Ld LOAD 3 ∷
+    i_offset Lbu LOAD 4 ∷
+    i_offset Lhu LOAD 5 ∷
+    i_offset Lwu LOAD 6 ∷
+    -- Stores (2.6 and 5.3)
+    s_type Sb STORE 0 ∷
+    s_type Sh STORE 1 ∷
+    s_type Sw STORE 2 ∷
+    s_type Sd STORE 3 ∷
+    -- Integer register-immediate instructions (2.4 and 5.2)
+    i_type Addi OP_IMM 0 ∷
+    i_shift Slli OP_IMM 1 0 ∷
+    i_type Slti OP_IMM 2 ∷
+    i_type Sltiu OP_IMM 3 ∷
+    i_type Xori OP_IMM 4 ∷
+    i_shift Srli OP_IMM 5 0 ∷
+    i_shift Srai OP_IMM 5 0x10 ∷
+    i_type Ori OP_IMM 6 ∷
+    i_type Andi OP_IMM 7 ∷
+    -- The same on 32 bits (5.2)
+    i_type Addiw OP_IMM_32 0 ∷
+    i_shift_word Slliw OP_IMM_32 1 0 ∷
+    i_shift_word Srliw OP_IMM_32 5 0 ∷
+    i_shift_word Sraiw OP_IMM_32 5 0x20 ∷
+    -- Integer register-register instructions (2.4); those with funct7 1 multiply and divide (7.1 and 7.2)
+    r_type Add OP 0 0 ∷
+    r_type Sub OP 0 0x20 ∷
+    r_type Mul OP 0 1 ∷
+    r_type Sll OP 1 0 ∷
+    r_type Mulh OP 1 1 ∷
+    r_type Slt OP 2 0 ∷
+    r_type Mulhsu OP 2 1 ∷
+    r_type Sltu OP 3 0 ∷
+    r_type Mulhu OP 3 1 ∷
+    r_type Xor OP 4 0 ∷
+    r_type Div OP 4 1 ∷
+    r_type Srl OP 5 0 ∷
+    r_type Sra OP 5 0x20 ∷
+    r_type Divu OP 5 1 ∷
+    r_type Or OP 6 0 ∷
+    r_type Rem OP 6 1 ∷
+    r_type And OP 7 0 ∷
+    r_type Remu OP 7 1 ∷
+    -- The same on 32 bits (5.2, 7.1 and 7.2)
+    r_type Addw OP_32 0 0 ∷
+    r_type Subw OP_32 0 0x20 ∷
+    r_type Mulw OP_32 0 1 ∷
+    r_type Sllw OP_32 1 0 ∷
+    r_type Divw OP_32 4 1 ∷
+    r_type Srlw OP_32 5 0 ∷
+    r_type Sraw OP_32 5 0x20 ∷
+    r_type Divuw OP_32 5 1 ∷
+    r_type Remw OP_32 6 1 ∷
+    r_type Remuw OP_32 7 1 ∷
+    -- Memory ordering, environment calls and breakpoints (2.7 and 2.8)
+    row Fence formats.Fence (opcode MISC_MEM ∷ funct3 0 ∷ []) ∷
+    row Ecall formats.Whole (opcode SYSTEM ∷ at 7 25 0 ∷ []) ∷
+    row Ebreak formats.Whole (opcode SYSTEM ∷ at 7 13 0 ∷ at 20 12 1 ∷ []) ∷
+    -- Quadrant 0 (table 16.5): C.ADDI4SPN, C.LW, C.LD, C.SW, C.SD
+    half Addi formats.Ciw 0 0 [] (at 5 8 0 ∷ []) ∷
+    half Lw formats.ClLw 0 2 [] [] ∷
+    half Ld formats.ClLd 0 3 [] [] ∷
+    half Sw formats.CsSw 0 6 [] [] ∷
+    half Sd formats.CsSd 0 7 [] [] ∷
+    -- Quadrant 1 (table 16.6): C.NOP and C.ADDI, C.ADDIW, C.LI, C.ADDI16SP, C.LUI
+    half Addi formats.Ci 1 0 [] [] ∷
+    half Addiw formats.Ci 1 1 [] (at 7 5 0 ∷ []) ∷
+    half Addi formats.CiLi 1 2 [] [] ∷
+    half Addi formats.CiSp 1 3 (at 7 5 2 ∷ []) (all (at 12 1 0 ∷ at 2 5 0 ∷ []) ∷ []) ∷
+    half Lui formats.CiLui 1 3 [] (at 7 5 2 ∷ all (at 12 1 0 ∷ at 2 5 0 ∷ []) ∷ []) ∷
+    -- C.SRLI, C.SRAI, C.ANDI, C.SUB, C.XOR, C.OR, C.AND, C.SUBW, C.ADDW
+    half Srli formats.CbShift 1 4 (at 10 2 0 ∷ []) [] ∷
+    half Srai formats.CbShift 1 4 (at 10 2 1 ∷ []) [] ∷
+    half Andi formats.CbAndi 1 4 (at 10 2 2 ∷ []) [] ∷
+    half Sub formats.Ca 1 4 (at 10 3 3 ∷ at 5 2 0 ∷ []) [] ∷
+    half Xor formats.Ca 1 4 (at 10 3 3 ∷ at 5 2 1 ∷ []) [] ∷
+    half Or formats.Ca 1 4 (at 10 3 3 ∷ at 5 2 2 ∷ []) [] ∷
+    half And formats.Ca 1 4 (at 10 3 3 ∷ at 5 2 3 ∷ []) [] ∷
+    half Subw formats.Ca 1 4 (at 10 3 7 ∷ at 5 2 0 ∷ []) [] ∷
+    half Addw formats.Ca 1 4 (at 10 3 7 ∷ at 5 2 1 ∷ []) [] ∷
+    -- C.J, C.BEQZ, C.BNEZ
+    half Jal formats.Cj 1 5 [] [] ∷
+    half Beq formats.Cb 1 6 [] [] ∷
+    half Bne formats.Cb 1 7 [] [] ∷
+    -- Quadrant 2 (table 16.7): C.SLLI, C.LWSP, C.LDSP
+    half Slli formats.CiSlli 2 0 [] [] ∷
+    half Lw formats.CiLwsp 2 2 [] (at 7 5 0 ∷ []) ∷
+    half Ld formats.CiLdsp 2 3 [] (at 7 5 0 ∷ []) ∷
+    -- C.JR, C.MV, C.EBREAK, C.JALR, C.ADD
+    half Jalr formats.CrJr 2 4 (at 12 1 0 ∷ at 2 5 0 ∷ []) (at 7 5 0 ∷ []) ∷
+    half Add formats.CrMv 2 4 (at 12 1 0 ∷ []) (at 2 5 0 ∷ []) ∷
+    half Ebreak formats.Whole 2 4 (at 12 1 1 ∷ at 2 10 0 ∷ []) [] ∷
+    half Jalr formats.CrJalr 2 4 (at 12 1 1 ∷ at 2 5 0 ∷ []) (at 7 5 0 ∷ []) ∷
+    half Add formats.CrAdd 2 4 (at 12 1 1 ∷ []) (at 2 5 0 ∷ []) ∷
+    -- C.SWSP, C.SDSP
+    half Sw formats.CssSwsp 2 6 [] [] ∷
+    half Sd formats.CssSdsp 2 7 [] [] ∷
     []

@@ -4,7 +4,7 @@
 ghost use Rattle.std.specs.Prelude.{◌≡◌, ◌<◌, ◌≤◌, ◌^◌, ℕ, Some, None, Option, IfSome, IfNone, IsTrue, ◌↔◌, not, map};
 ghost use Rattle.rv_decode.specs.Rows.{holds, holds_none, holds_row, rows, word_of};
 ghost use Rattle.rv_decode.specs.declared.insn.Insn.{Insn};
-ghost use Rattle.rv_decode.specs.Views.{excluded, pattern_of, row_of, reads_of};
+ghost use Rattle.rv_decode.specs.Views.{excluded, pattern_of, row_of};
 ghost use Rattle.rv_decode.specs.Slots.{slot_pattern};
 ghost use Rattle.rv_decode.specs.Means.{decoded, first, Means, NamesRegisters, OneRowHolds};
 

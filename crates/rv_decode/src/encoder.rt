@@ -1,13 +1,15 @@
 //! Instruction words from instructions.
 #![tactic(auto)]
 
-ghost use Rattle.std.specs.Prelude.{◌≡◌, ◌<◌, ◌≤◌, ◌^◌, ◌/◌, ◌%◌, ◌+◌, ◌*◌, ℕ, IsTrue, Some, length, slice_get};
+ghost use Rattle.std.specs.Prelude.{◌≡◌, ◌<◌, ◌^◌, ◌/◌, ◌%◌, ◌*◌, IsTrue, Some, length, slice_get};
 ghost use Rattle.std.specs.Int.{cast_unsigned, w64};
 ghost use Rattle.rv_decode.specs.Fields.{field};
-ghost use Rattle.rv_decode.specs.Packed.{pack_i, pack_u, pack_j, pack_b, pack_s, pack_shift, pack_shift_w, pack_r, packed, place_of, HasWord};
+ghost use Rattle.rv_decode.specs.Fits.{fits, FitsExactly};
 ghost use Rattle.rv_decode.specs.Means.{decoded};
+ghost use Rattle.rv_decode.specs.Names.{place_of};
+ghost use Rattle.rv_decode.specs.Packed.{pack_i, pack_u, pack_j, pack_b, pack_s, pack_shift, pack_shift_w, pack_r, packed};
+ghost use Rattle.rv_decode.specs.declared.table.TheConstants.{ROWS};
 
-use crate::decoder::decode;
 use crate::insn::{Insn, Op};
 use crate::table::{Format, ROWS, Row};
 
@@ -121,15 +123,16 @@ fn pack(format: Format, value: u32, insn: Insn) -> u32
     ensures { result ≡ packed format value insn }
 {
     match format {
-        Format::I => i_word(value, insn),
+        Format::R => r_word(value, insn),
+        Format::I | Format::IOffset => i_word(value, insn),
+        Format::IShift => shift_word(value, insn),
+        Format::IShiftWord => shift_w_word(value, insn),
         Format::S => s_word(value, insn),
         Format::B => b_word(value, insn),
         Format::U => u_word(value, insn),
         Format::J => j_word(value, insn),
-        Format::Shift => shift_word(value, insn),
-        Format::ShiftW => shift_w_word(value, insn),
-        Format::R => r_word(value, insn),
-        _ => { if value == 0xf { 0x0ff0_000f } else { value } }
+        Format::Fence => 0x0ff0_000f,
+        _ => value,
     }
 }
 
@@ -148,32 +151,24 @@ fn row_at(rows: &[Row], place: usize) -> Row
     rows[place]
 }
 
-/// The word of an instruction that has one.
-fn word_for(insn: Insn) -> u32
-    ensures { HasWord insn → decoded (result % 2 ^ 16) (result / 2 ^ 16) ≡ Some (insn, 4) }
+/// A name's row of 32 bits.
+pub(crate) fn row_of_name(op: Op) -> Row
+    ensures { slice_get ROWS (place_of op) ≡ Some result }
 {
-    let row = row_at(&ROWS, place(insn.op));
+    row_at(&ROWS, place(op))
+}
+
+/// The word of an instruction, which decodes to it. The word of FENCE is that of `fence iorw, iorw`. (RISC-V
+/// unprivileged manual, version 20191213, 2.7)
+pub fn encode(insn: Insn) -> u32
+    requires { IsTrue (fits insn) }
+    ensures { decoded (result % 2 ^ 16) (result / 2 ^ 16) ≡ Some (insn, 4) }
+{
+    let row = row_of_name(insn.op);
     pack(row.5, row.1, insn)
 }
 
-/// The word of an instruction, which decodes to it.
-pub fn encode(insn: Insn) -> u32
-    requires { HasWord insn }
-    ensures { decoded (result % 2 ^ 16) (result / 2 ^ 16) ≡ Some (insn, 4) }
-{
-    word_for(insn)
-}
-
-impl Insn {
-    /// Whether some word of 32 bits decodes to the instruction.
-    pub fn fits(&self) -> bool
-        ensures fits { IsTrue result → HasWord self.now }
-        ensures all { HasWord self.now → IsTrue result }
-    {
-        let word = word_for(*self);
-        match decode((word % 65536) as u16, (word / 65536) as u16) {
-            Some((insn, len)) => insn == *self && len == 4,
-            None => false,
-        }
-    }
-}
+/// An instruction fits exactly where some word of 32 bits means it.
+pub fn fits_exactly()
+    ensures { FitsExactly }
+{}

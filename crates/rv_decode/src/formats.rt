@@ -1,17 +1,30 @@
 //! The instruction of a word in each format.
 #![tactic(auto)]
 
-ghost use Rattle.std.specs.Prelude.{◌≡◌};
-ghost use Rattle.rv_decode.specs.Views.{reads_of};
+ghost use Rattle.std.specs.Prelude.{◌≡◌, ◌<◌};
+ghost use Rattle.rv_decode.specs.Formats.{reads_of};
 ghost use Rattle.rv_decode.specs.Means.{NamesRegisters};
 
-use crate::fields::{
-    imm_b, imm_cb, imm_ci, imm_ciw, imm_cj, imm_double, imm_i, imm_j, imm_load_double,
-    imm_load_word, imm_s, imm_stack, imm_store_double, imm_store_word, imm_u, imm_upper, imm_word,
-    register, shamt_5, shamt_6, shamt_c, short_register,
+use crate::fields::{register, short_register};
+use crate::immediates::{
+    imm_addi4spn, imm_addi16sp, imm_b, imm_ci, imm_i, imm_j, imm_lui, imm_s, imm_u, offset_b,
+    offset_j, offset_ld, offset_ldsp, offset_lw, offset_lwsp, offset_sdsp, offset_swsp, shamt,
+    shamt_ci, shamt_word,
 };
 use crate::insn::{Insn, Op};
 use crate::table::Format;
+
+fn insn(op: Op, rd: u8, rs1: u8, rs2: u8, imm: i64) -> Insn
+    ensures { result ≡ record { op = op; rd = rd; rs1 = rs1; rs2 = rs2; imm = imm } }
+{
+    Insn {
+        op,
+        rd,
+        rs1,
+        rs2,
+        imm,
+    }
+}
 
 /// The instruction that a word is in a format.
 pub(crate) fn read(format: Format, op: Op, word: u32) -> Insn
@@ -19,229 +32,99 @@ pub(crate) fn read(format: Format, op: Op, word: u32) -> Insn
     ensures registers { NamesRegisters result }
 {
     match format {
-        Format::I => Insn {
+        Format::R => insn(
             op,
-            rd: register(word, 7),
-            rs1: register(word, 15),
-            rs2: 0,
-            imm: imm_i(word),
-        },
-        Format::U => Insn {
+            register(word, 7),
+            register(word, 15),
+            register(word, 20),
+            0,
+        ),
+        Format::I => insn(op, register(word, 7), register(word, 15), 0, imm_i(word)),
+        Format::IOffset => insn(op, register(word, 7), register(word, 15), 0, imm_i(word)),
+        Format::IShift => insn(op, register(word, 7), register(word, 15), 0, shamt(word)),
+        Format::IShiftWord => insn(
             op,
-            rd: register(word, 7),
-            rs1: 0,
-            rs2: 0,
-            imm: imm_u(word),
-        },
-        Format::J => Insn {
+            register(word, 7),
+            register(word, 15),
+            0,
+            shamt_word(word),
+        ),
+        Format::S => insn(op, 0, register(word, 15), register(word, 20), imm_s(word)),
+        Format::B => insn(op, 0, register(word, 15), register(word, 20), imm_b(word)),
+        Format::U => insn(op, register(word, 7), 0, 0, imm_u(word)),
+        Format::J => insn(op, register(word, 7), 0, 0, imm_j(word)),
+        Format::Fence => insn(op, 0, 0, 0, 0),
+        Format::Whole => insn(op, 0, 0, 0, 0),
+        Format::Ciw => insn(op, short_register(word, 2), 2, 0, imm_addi4spn(word)),
+        Format::ClLw => insn(
             op,
-            rd: register(word, 7),
-            rs1: 0,
-            rs2: 0,
-            imm: imm_j(word),
-        },
-        Format::B => Insn {
+            short_register(word, 2),
+            short_register(word, 7),
+            0,
+            offset_lw(word),
+        ),
+        Format::ClLd => insn(
             op,
-            rd: 0,
-            rs1: register(word, 15),
-            rs2: register(word, 20),
-            imm: imm_b(word),
-        },
-        Format::S => Insn {
+            short_register(word, 2),
+            short_register(word, 7),
+            0,
+            offset_ld(word),
+        ),
+        Format::CsSw => insn(
             op,
-            rd: 0,
-            rs1: register(word, 15),
-            rs2: register(word, 20),
-            imm: imm_s(word),
-        },
-        Format::Shift => Insn {
+            0,
+            short_register(word, 7),
+            short_register(word, 2),
+            offset_lw(word),
+        ),
+        Format::CsSd => insn(
             op,
-            rd: register(word, 7),
-            rs1: register(word, 15),
-            rs2: 0,
-            imm: shamt_6(word),
-        },
-        Format::ShiftW => Insn {
+            0,
+            short_register(word, 7),
+            short_register(word, 2),
+            offset_ld(word),
+        ),
+        Format::Ci => insn(op, register(word, 7), register(word, 7), 0, imm_ci(word)),
+        Format::CiLi => insn(op, register(word, 7), 0, 0, imm_ci(word)),
+        Format::CiSp => insn(op, 2, 2, 0, imm_addi16sp(word)),
+        Format::CiLui => insn(op, register(word, 7), 0, 0, imm_lui(word)),
+        Format::CiSlli => insn(op, register(word, 7), register(word, 7), 0, shamt_ci(word)),
+        Format::CiLwsp => insn(op, register(word, 7), 2, 0, offset_lwsp(word)),
+        Format::CiLdsp => insn(op, register(word, 7), 2, 0, offset_ldsp(word)),
+        Format::CssSwsp => insn(op, 0, 2, register(word, 2), offset_swsp(word)),
+        Format::CssSdsp => insn(op, 0, 2, register(word, 2), offset_sdsp(word)),
+        Format::CbShift => insn(
             op,
-            rd: register(word, 7),
-            rs1: register(word, 15),
-            rs2: 0,
-            imm: shamt_5(word),
-        },
-        Format::R => Insn {
+            short_register(word, 7),
+            short_register(word, 7),
+            0,
+            shamt_ci(word),
+        ),
+        Format::CbAndi => insn(
             op,
-            rd: register(word, 7),
-            rs1: register(word, 15),
-            rs2: register(word, 20),
-            imm: 0,
-        },
-        Format::Bare => Insn {
+            short_register(word, 7),
+            short_register(word, 7),
+            0,
+            imm_ci(word),
+        ),
+        Format::Cb => insn(op, 0, short_register(word, 7), 0, offset_b(word)),
+        Format::Ca => insn(
             op,
-            rd: 0,
-            rs1: 0,
-            rs2: 0,
-            imm: 0,
-        },
-        Format::Ciw => Insn {
+            short_register(word, 7),
+            short_register(word, 7),
+            short_register(word, 2),
+            0,
+        ),
+        Format::Cj => insn(op, 0, 0, 0, offset_j(word)),
+        Format::CrJr => insn(op, 0, register(word, 7), 0, 0),
+        Format::CrJalr => insn(op, 1, register(word, 7), 0, 0),
+        Format::CrMv => insn(op, register(word, 7), 0, register(word, 2), 0),
+        Format::CrAdd => insn(
             op,
-            rd: short_register(word, 2),
-            rs1: 2,
-            rs2: 0,
-            imm: imm_ciw(word),
-        },
-        Format::ClWord => Insn {
-            op,
-            rd: short_register(word, 2),
-            rs1: short_register(word, 7),
-            rs2: 0,
-            imm: imm_word(word),
-        },
-        Format::ClDouble => Insn {
-            op,
-            rd: short_register(word, 2),
-            rs1: short_register(word, 7),
-            rs2: 0,
-            imm: imm_double(word),
-        },
-        Format::CsWord => Insn {
-            op,
-            rd: 0,
-            rs1: short_register(word, 7),
-            rs2: short_register(word, 2),
-            imm: imm_word(word),
-        },
-        Format::CsDouble => Insn {
-            op,
-            rd: 0,
-            rs1: short_register(word, 7),
-            rs2: short_register(word, 2),
-            imm: imm_double(word),
-        },
-        Format::Ci => Insn {
-            op,
-            rd: register(word, 7),
-            rs1: register(word, 7),
-            rs2: 0,
-            imm: imm_ci(word),
-        },
-        Format::CiLoad => Insn {
-            op,
-            rd: register(word, 7),
-            rs1: 0,
-            rs2: 0,
-            imm: imm_ci(word),
-        },
-        Format::CiStack => Insn {
-            op,
-            rd: 2,
-            rs1: 2,
-            rs2: 0,
-            imm: imm_stack(word),
-        },
-        Format::CiUpper => Insn {
-            op,
-            rd: register(word, 7),
-            rs1: 0,
-            rs2: 0,
-            imm: imm_upper(word),
-        },
-        Format::CbShift => Insn {
-            op,
-            rd: short_register(word, 7),
-            rs1: short_register(word, 7),
-            rs2: 0,
-            imm: shamt_c(word),
-        },
-        Format::CbAnd => Insn {
-            op,
-            rd: short_register(word, 7),
-            rs1: short_register(word, 7),
-            rs2: 0,
-            imm: imm_ci(word),
-        },
-        Format::Ca => Insn {
-            op,
-            rd: short_register(word, 7),
-            rs1: short_register(word, 7),
-            rs2: short_register(word, 2),
-            imm: 0,
-        },
-        Format::Cj => Insn {
-            op,
-            rd: 0,
-            rs1: 0,
-            rs2: 0,
-            imm: imm_cj(word),
-        },
-        Format::Cb => Insn {
-            op,
-            rd: 0,
-            rs1: short_register(word, 7),
-            rs2: 0,
-            imm: imm_cb(word),
-        },
-        Format::CiShift => Insn {
-            op,
-            rd: register(word, 7),
-            rs1: register(word, 7),
-            rs2: 0,
-            imm: shamt_c(word),
-        },
-        Format::CiWord => Insn {
-            op,
-            rd: register(word, 7),
-            rs1: 2,
-            rs2: 0,
-            imm: imm_load_word(word),
-        },
-        Format::CiDouble => Insn {
-            op,
-            rd: register(word, 7),
-            rs1: 2,
-            rs2: 0,
-            imm: imm_load_double(word),
-        },
-        Format::CrJump => Insn {
-            op,
-            rd: 0,
-            rs1: register(word, 7),
-            rs2: 0,
-            imm: 0,
-        },
-        Format::CrLink => Insn {
-            op,
-            rd: 1,
-            rs1: register(word, 7),
-            rs2: 0,
-            imm: 0,
-        },
-        Format::CrMove => Insn {
-            op,
-            rd: register(word, 7),
-            rs1: 0,
-            rs2: register(word, 2),
-            imm: 0,
-        },
-        Format::CrAdd => Insn {
-            op,
-            rd: register(word, 7),
-            rs1: register(word, 7),
-            rs2: register(word, 2),
-            imm: 0,
-        },
-        Format::CssWord => Insn {
-            op,
-            rd: 0,
-            rs1: 2,
-            rs2: register(word, 2),
-            imm: imm_store_word(word),
-        },
-        Format::CssDouble => Insn {
-            op,
-            rd: 0,
-            rs1: 2,
-            rs2: register(word, 2),
-            imm: imm_store_double(word),
-        },
+            register(word, 7),
+            register(word, 7),
+            register(word, 2),
+            0,
+        ),
     }
 }

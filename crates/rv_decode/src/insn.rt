@@ -1,7 +1,8 @@
 //! Instructions.
 #![tactic(auto)]
 
-/// The name of an instruction.
+/// The name of an instruction of RV64IM, in the order of the instruction table. (RISC-V unprivileged manual, version
+/// 20191213, table 24.2)
 #[derive(Clone, Copy, Debug, PartialEq, Eq, Drop)]
 pub enum Op {
     Lui,
@@ -71,7 +72,11 @@ pub enum Op {
     Ebreak,
 }
 
-/// An instruction. A field that its name doesn't use is 0.
+/// An instruction: its name, its registers by their numbers, and its immediate with its sign. A field that the name
+/// doesn't use is 0.
+///
+/// The immediate is the manual's: that of LUI and AUIPC is a multiple of 4,096, that of a branch or a jump the
+/// distance in bytes, and that of a shift the shift amount. (RISC-V unprivileged manual, version 20191213, 2.3)
 #[derive(Clone, Copy, Debug, PartialEq, Eq, Drop)]
 pub struct Insn {
     pub op: Op,

@@ -5,9 +5,12 @@ mod decoder;
 mod encoder;
 mod fields;
 mod formats;
+mod immediates;
 mod insn;
+mod ranges;
 mod table;
+mod text;
 
 pub use decoder::{decode, one_row_holds};
-pub use encoder::encode;
+pub use encoder::{encode, fits_exactly};
 pub use insn::{Insn, Op};

@@ -1,0 +1,5 @@
+use Rattle.rv_decode.proofs.EncodeLemmas.{encodes}
+use Rattle.rv_decode.proofs.encoder.encode.Goals as goal
+
+pub returns : goal.returns
+returns c = encodes c.args.insn c.row_of_name-row.result _ c.row_of_name-row.ensures c.pack.ensures c.requires
