@@ -72,6 +72,13 @@ fn hexadecimal(bytes: &[u8]) -> Option<u64>
     }
 }
 
+/// The number of decimal digits without a needless leading 0. None exactly elsewhere, and above 2^64 - 1.
+pub fn decimal_number(text: &str) -> Option<u64>
+    ensures { result ≡ decimal_number text.now }
+{
+    decimal(text.as_bytes())
+}
+
 /// The number of a number text: decimal digits without a needless leading 0, or `0x` and 1 to 16 hexadecimal
 /// digits of either case. None exactly elsewhere, and above 2^64 - 1.
 #[tactic(auto, unfolding(crate::specs::Numbers::number_of))]

@@ -1,0 +1,4 @@
+pub mod ByteLemmas
+pub mod PartLemmas
+pub mod PutLemmas
+pub mod RunLemmas

@@ -1,0 +1,9 @@
+use Rattle.std.proofs.Common.{arith, ◌∙◌}
+use Rattle.host_engine.proofs.PartLemmas.{part_number}
+use Rattle.host_engine.proofs.flat_memory.FlatMemory.number.Goals as goal
+
+pub returns : goal.returns
+returns c =
+    let ok = c.args.self.now.bytes.ok.0 in
+    let whole = c.args.self.now.whole in
+    c.number_in.ensures ∙ part_number _ _ _ _ c.as_slice-bytes.ensures.value (omega arith) c.requires.inside

@@ -1,0 +1,55 @@
+//! A run of a flat memory from its base.
+#![tactic(auto)]
+
+ghost use Rattle.std.specs.Prelude.{◌≡◌};
+ghost use Rattle.rv_step.specs.Steps.{state_of};
+ghost use Rattle.host_engine.specs.FlatRuns.{run, RunsEnd};
+ghost use Rattle.host_engine.specs.FlatMemories.{flat_bytes, flat_rights};
+ghost use Rattle.host_engine.specs.Views.{end_of};
+
+use crate::flat_memory::FlatMemory;
+use rv_step::{Regs, StepEnd, Trap, step};
+
+/// Why a run is over.
+#[derive(Clone, Copy, Drop)]
+pub enum FlatCause {
+    /// All steps that it may make are made.
+    Bound,
+    /// The next instruction traps.
+    Trap(Trap),
+}
+
+/// How a run ends.
+#[derive(Clone, Copy, Drop)]
+pub struct FlatEnd {
+    /// Why it is over.
+    pub cause: FlatCause,
+    /// How many steps it made.
+    pub steps: u64,
+}
+
+/// A law: a run makes the steps that it counts, and it ends at its bound, or before that at an instruction
+/// that traps.
+pub fn run_reaches_its_end()
+    ensures { RunsEnd }
+{}
+
+/// Makes at most so many steps.
+pub fn run(regs: &mut Regs, memory: &mut FlatMemory, bound: u64) -> FlatEnd
+    ensures { end_of result (state_of regs.new (flat_bytes memory.new.bytes.items)) ≡ run flat_rights bound (state_of regs.old (flat_bytes memory.old.bytes.items)) }
+{
+    for steps in 0..bound {
+        match step(regs, memory) {
+            StepEnd::Next => {}
+            StepEnd::Trap(trap) => return FlatEnd {
+                cause: FlatCause::Trap(trap),
+                steps,
+            },
+            StepEnd::Frames | StepEnd::Memory => unreachable!(),
+        }
+    }
+    FlatEnd {
+        cause: FlatCause::Bound,
+        steps: bound,
+    }
+}

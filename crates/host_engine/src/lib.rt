@@ -1,0 +1,18 @@
+//! The commands of the host, over files and outputs that the caller hands in.
+#![tactic(auto)]
+
+mod command;
+mod flat;
+mod flat_line;
+mod flat_memory;
+mod flat_run;
+mod host;
+mod message;
+mod status;
+
+pub use flat_run::run_reaches_its_end;
+pub use host::host_main;
+pub use status::Status;
+
+#[cfg(test)]
+mod tests;

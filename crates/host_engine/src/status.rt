@@ -1,0 +1,41 @@
+//! How the program ends.
+#![tactic(auto)]
+
+ghost use Rattle.std.specs.Prelude.{◌≡◌};
+ghost use Rattle.host_engine.specs.Gives.{code_of};
+
+/// How a command ended.
+#[derive(Clone, Copy, Debug, PartialEq, Eq, Drop)]
+pub enum Status {
+    /// All was put, and the run ended as a program ends.
+    Done,
+    /// All was put, and the run ended otherwise.
+    Halted,
+    /// The words ask for no command.
+    Words,
+    /// A file couldn't be read.
+    Read,
+    /// A file is longer than its limit.
+    Size,
+    /// The output failed.
+    Write,
+    /// Memory was wanting.
+    Memory,
+}
+
+impl Status {
+    /// The exit status of the program, from 0 to 7.
+    pub fn code(self) -> u8
+        ensures { result ≡ code_of self }
+    {
+        match self {
+            Status::Done => 0,
+            Status::Halted => 1,
+            Status::Words => 2,
+            Status::Read => 4,
+            Status::Write => 5,
+            Status::Memory => 6,
+            Status::Size => 7,
+        }
+    }
+}
