@@ -1,14 +1,15 @@
 -- Digits and what they stand for.
-use Rattle.std.proofs.Common.{◌≡◌, ℕ, zero, suc, ◌+◌, ◌-◌, ◌*◌, ◌^◌, ◌<◌, ◌≤◌, Bool, true, false, ◌&&◌, nat_lt, nat_le, List, [], ◌∷◌, length, get_or, Option, Some, None, refl, sym, ap, ◌∙◌, arith}
+use Rattle.std.proofs.Common.{◌≡◌, ℕ, zero, suc, ◌+◌, ◌-◌, ◌*◌, ◌/◌, ◌%◌, ◌^◌, ◌<◌, ◌≤◌, Bool, true, false, ◌&&◌, nat_lt, nat_le, List, [], ◌∷◌, ◌++◌, length, get_or, Option, Some, None, refl, sym, ap, ◌∙◌, arith, length-append}
 use Rattle.std.specs.Prelude.{if◌then◌else◌}
 use Rattle.std.specs.Fmt.{decimal}
-use Rattle.std.proofs.Math.Nat.{pow-zero, pow-succ', mul-le-mul_left}
+use Rattle.std.proofs.Math.Nat.{pow-zero, pow-succ', pow-le-pow_right, mul-le-mul_left}
 use Rattle.std.proofs.lemmas.Bool.Decides.{nat_tests}
 use Rattle.std.proofs.lemmas.Fmt.{digits_decimal, digits_value-decimal, first_decimal, decimal_nonempty, decimal_digit}
 use Rattle.std.proofs.lemmas.Str.Parse.{IsNumeralModel, IsDigitsTest, WeighsDigits, numerals_by_weight, not_in_digits}
 use Rattle.std.proofs.lemmas.Bool.{and_parts}
 use Rattle.std.specs.Int.{IsInRange}
-use Rattle.uh_base.specs.Numbers.{digit_value, are_digits, value_of, digits_number, is_prefixed, number_of}
+use Rattle.uh_base.specs.Numbers.{digit_value, are_digits, value_of, digits_number, is_prefixed, hexadecimal_number, number_of}
+use Rattle.uh_base.specs.Hex.{hex_digit, hex_digits}
 use Rattle.uh_base.specs.DigitSteps.{joined, digits_from}
 
 -- the number that digits give behind a number
@@ -127,3 +128,55 @@ number_of_decimal (suc m) h =
     let first : 48 < get_or (decimal n) 0 0 = first_decimal n (omega arith) h in
     let long : 0 < length (decimal n) = decimal_nonempty n h in
     rw (p, a, v) (grind (arith, nat_tests, first, long))
+
+-- ---- the hexadecimal digits of a number
+
+glyph : (d : ℕ) → d < 16 → digit_value (hex_digit d) ≡ d
+unfolding digit_value
+glyph d h = grind (arith, nat_tests)
+
+length-hex_digits : (count n : ℕ) → length (hex_digits count n) ≡ count
+unfolding hex_digits
+length-hex_digits zero n = refl
+length-hex_digits (suc count) n = omega (arith, length-append (hex_digits count (n / 16)) (hex_digit (n % 16) ∷ []), length-hex_digits count (n / 16))
+
+-- one digit behind others
+value_of-last : (base : ℕ) (bytes : List ℕ) (b : ℕ) → value_of base (bytes ++ b ∷ []) ≡ value_of base bytes * base + digit_value b
+value_of-last base [] b = let one : base ^ 0 ≡ 1 = pow-zero base in rw one (omega arith)
+value_of-last base (c ∷ cs) b =
+    let len : length (cs ++ b ∷ []) ≡ suc (length cs) = length-append cs (b ∷ []) ∙ omega arith in
+    let p : base ^ suc (length cs) ≡ base * base ^ length cs = pow-succ' base (length cs) in
+    let rest = value_of-last base cs b in
+    rw (len, p, rest) (omega arith)
+
+are_digits-last : (base : ℕ) (bytes : List ℕ) (b : ℕ) → are_digits base bytes ≡ true → nat_lt (digit_value b) base ≡ true → are_digits base (bytes ++ b ∷ []) ≡ true
+are_digits-last base [] b all last = rw last refl
+are_digits-last base (c ∷ cs) b all last =
+    let p = and_parts _ _ all in
+    let first : nat_lt (digit_value c) base ≡ true = p.0 in
+    rw first (are_digits-last base cs b p.1 last)
+
+hex_are_digits : (count n : ℕ) → are_digits 16 (hex_digits count n) ≡ true
+unfolding hex_digits
+hex_are_digits zero n = refl
+hex_are_digits (suc count) n =
+    let d : n % 16 < 16 = omega arith in
+    let g = glyph (n % 16) d in
+    are_digits-last 16 (hex_digits count (n / 16)) (hex_digit (n % 16)) (hex_are_digits count (n / 16)) (rw g (grind (arith, nat_tests, d)))
+
+hex_value : (count n : ℕ) → n < 16 ^ count → value_of 16 (hex_digits count n) ≡ n
+unfolding hex_digits
+hex_value zero n h = omega arith
+hex_value (suc count) n h =
+    let p : 16 ^ suc count ≡ 16 * 16 ^ count = pow-succ' 16 count in
+    let fits : n < 16 * 16 ^ count = rw p at h in
+    let less : n / 16 < 16 ^ count = omega arith in
+    let d : n % 16 < 16 = omega arith in
+    value_of-last 16 (hex_digits count (n / 16)) (hex_digit (n % 16)) ∙ (rw (hex_value count (n / 16) less, glyph (n % 16) d) (omega arith))
+
+pub number_of_hex_digits : (count n : ℕ) → 1 ≤ count → count ≤ 16 → n < 16 ^ count → hexadecimal_number (hex_digits count n) ≡ Some n
+unfolding digits_number
+number_of_hex_digits count n low high h =
+    let most : 16 ^ count ≤ 16 ^ 16 = pow-le-pow_right {n = 16} (omega arith) high in
+    let small : n < 2 ^ 64 = omega arith in
+    rw (length-hex_digits count n, hex_are_digits count n, hex_value count n h) (grind (arith, nat_tests, small, low, high))

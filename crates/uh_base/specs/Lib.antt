@@ -1,4 +1,5 @@
 pub mod Bytes
+pub mod ConsoleText
 pub mod Counts
 pub mod Crc
 pub mod DigitSteps
@@ -7,5 +8,6 @@ pub mod Hex
 pub mod LittleEndian
 pub mod MemFiles
 pub mod MemSink
+pub mod Names
 pub mod Numbers
 pub mod Told

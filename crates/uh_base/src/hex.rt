@@ -1,10 +1,10 @@
 //! Hexadecimal text.
 #![tactic(auto)]
 
-ghost use Rattle.std.specs.Prelude.{◌≡◌, ◌<◌, ◌++◌, OnOk};
+ghost use Rattle.std.specs.Prelude.{◌≡◌, ◌<◌, ◌++◌, IfOk, OnOk, string_bytes};
 ghost use Rattle.uh_base.specs.Hex.{hex_digits, hex_digit};
 
-use std::alloc::AllocError;
+use std::alloc::{AllocError, Global};
 
 fn digit(n: u8) -> u8
     requires { n < 16 }
@@ -23,4 +23,17 @@ pub fn push_hex(text: &mut Vec<u8>, count: u8, n: u64) -> Result<(), AllocError>
         text.push(digit((n % 16) as u8))?;
     }
     Ok(())
+}
+
+/// So many hexadecimal digits of a number in lower case, the most significant first.
+
+pub fn hex_text(alloc: Global, count: u8, n: u64) -> Result<String, AllocError>
+    ensures { IfOk result (λ text. string_bytes text ≡ hex_digits count n) }
+{
+    let mut digits = Vec::new(alloc);
+    push_hex(&mut digits, count, n)?;
+    match String::from_utf8(digits) {
+        Ok(text) => Ok(text),
+        Err(_) => unreachable!(),
+    }
 }

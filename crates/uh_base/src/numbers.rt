@@ -1,6 +1,7 @@
 //! Number texts.
 ghost use Rattle.std.specs.Prelude.{◌≡◌, ◌<◌, ◌≤◌, ◌^◌, ℕ, Some};
 ghost use Rattle.std.specs.Fmt.{decimal};
+ghost use Rattle.uh_base.specs.Hex.{hex_digits};
 ghost use Rattle.uh_base.specs.Numbers.{digit_value, digits_number, decimal_number, hexadecimal_number, number_of};
 ghost use Rattle.uh_base.specs.DigitSteps.{joined, digits_from};
 
@@ -62,7 +63,8 @@ fn decimal(bytes: &[u8]) -> Option<u64>
     }
 }
 
-fn hexadecimal(bytes: &[u8]) -> Option<u64>
+/// The number of 1 to 16 hexadecimal digits of either case.
+pub fn hexadecimal(bytes: &[u8]) -> Option<u64>
     ensures { result ≡ hexadecimal_number bytes.now }
 {
     if bytes.is_empty() || bytes.len() > 16 {
@@ -97,4 +99,10 @@ pub fn number(text: &str) -> Option<u64>
 #[tactic(auto, using(crate::proofs::NumberLemmas::number_of_decimal))]
 pub fn decimals_read_back()
     ensures { (n : ℕ) → n < 2 ^ 64 → number_of (decimal n) ≡ Some n }
+{}
+
+/// A law: the hexadecimal digits of a number that they hold are read as that number.
+#[tactic(auto, using(crate::proofs::NumberLemmas::number_of_hex_digits))]
+pub fn hexadecimals_read_back()
+    ensures { (count n : ℕ) → 1 ≤ count → count ≤ 16 → n < 16 ^ count → hexadecimal_number (hex_digits count n) ≡ Some n }
 {}

@@ -1,5 +1,8 @@
 //! Values from outside, and each call that allocates.
-use crate::{Bytes, FileEnd, Files, Guid, MemFiles, MemSink, Sink, Text, crc32, number};
+use crate::{
+    Bytes, FileEnd, Files, Guid, MemFiles, MemSink, Sink, Text, crc32, hex_text, hexadecimal,
+    is_name, number,
+};
 use std::test::Fail;
 
 #[test]
@@ -130,4 +133,41 @@ fn texts_and_bytes(rt: HostRuntime) -> Result<(), Fail> {
     let bytes = Bytes::from_vec(vec![in alloc; 7]?);
     assert!(rt; bytes.as_slice() == b"\x07".as_slice());
     Ok(())
+}
+
+#[test]
+fn hexadecimal_texts(rt: HostRuntime) -> Result<(), Fail> {
+    let alloc = rt.alloc();
+    let text = hex_text(alloc, 16, 0x40fb_a000)?;
+    assert!(rt; text.as_str() == "0000000040fba000");
+    let text = hex_text(alloc, 2, 0x10a)?;
+    assert!(rt; text.as_str() == "0a");
+    assert!(rt; hexadecimal(b"00fF") == Some(255));
+    assert!(rt; hexadecimal(b"").is_none());
+    assert!(rt; hexadecimal(b"0x1").is_none());
+    Ok(())
+}
+
+#[test]
+fn names(rt: HostRuntime) {
+    for name in [
+        "a",
+        "app",
+        "drv_2",
+        "0",
+        "_",
+        "abcdefghijklmnopqrstuvwxyz012345",
+    ] {
+        assert!(rt; is_name(name), "{name}");
+    }
+    for name in [
+        "",
+        "A",
+        "a b",
+        "a-b",
+        "é",
+        "abcdefghijklmnopqrstuvwxyz0123456",
+    ] {
+        assert!(rt; !is_name(name), "{name}");
+    }
 }
