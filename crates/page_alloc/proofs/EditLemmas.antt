@@ -111,11 +111,6 @@ before_grows (x ∷ xs) (suc i) (suc j) h =
     let more = before_grows xs i j (omega arith) in
     omega (arith, length-append (replicate x.count x.page) (all_pages (take i xs)), length-append (replicate x.count x.page) (all_pages (take j xs)))
 
-pub length-with_pages : (pages : List Page) (index count : ℕ) (page : Page) → index + count ≤ length pages → length (with_pages pages index count page) ≡ length pages
-unfolding with_pages
-length-with_pages pages index count page h =
-    simp (length-append, length-replicate, length-take, length-drop) (omega arith)
-
 -- there are fewer runs than pages where one has two
 pub few_runs : (xs : List Run) → NoneEmpty xs → length xs ≤ length (all_pages xs)
 unfolding all_pages

@@ -1,13 +1,14 @@
 -- Tests of pages in a row.
-use Rattle.std.proofs.Common.{◌≡◌, ℕ, zero, suc, ◌+◌, ◌-◌, ◌*◌, ◌<◌, ◌≤◌, List, length, take, drop, get_or, refl, sym, ap, ◌∙◌, arith, Bool, true, false, length-drop, length-take, min}
+use Rattle.std.proofs.Common.{◌≡◌, ℕ, zero, suc, ◌+◌, ◌-◌, ◌*◌, ◌<◌, ◌≤◌, List, length, take, drop, get_or, refl, sym, ap, ◌∙◌, arith, Bool, true, false, length-drop, length-take, length-append, min, replicate, ◌++◌}
 use Rattle.std.specs.Prelude.{◌&&◌, nat_le, Option, Some, None}
 use Rattle.std.specs.Bool.{Decides}
 use Rattle.std.specs.List.{list_all, All, AllPass, AllWithin}
 use Rattle.std.proofs.lemmas.Bool.Decides.{nat_tests, Decides-and, leb_tells, same_from_decides, Decides-like}
-use Rattle.std.proofs.lemmas.List.{get_or-take, get_or-drop, get_or_default}
+use Rattle.std.proofs.lemmas.List.{get_or-take, get_or-drop, get_or_default, length-replicate}
+use Rattle.std.proofs.lemmas.List.Elements.{All-append, All-replicate, All-take, All-drop}
 use Rattle.std.proofs.lemmas.List.Sums.{AllPass-from_list_all, list_all-from_AllPass}
 use Rattle.page_alloc.specs.declared.page.Page.{Page}
-use Rattle.page_alloc.specs.Pages.{all_from}
+use Rattle.page_alloc.specs.Pages.{PageList, Whole, IsNobodys, all_from, with_pages, next_key}
 use Rattle.page_alloc.specs.Fit.{greatest, IsGreatest}
 
 -- so many pages from a start on are there, and each passes the test
@@ -45,3 +46,34 @@ all_from_tells test pages start count = (
   λ h. let i = h.inside in let e : nat_le (start + count) (length pages) ≡ true = grind (arith, nat_tests) in
       rw e (list_all-from_AllPass test (take count (drop start pages)) (pass test pages start count i h.each)),
 )
+
+-- more pages than there are fail a test
+too_many_by : (test : Page → Bool) (pages : List Page) (start count : ℕ) (b : Bool) → all_from test pages start count ≡ b → length pages < count → b ≡ false
+too_many_by test pages start count true h over = absurd (let i = ((all_from_tells test pages start count).0 h).inside in omega arith)
+too_many_by test pages start count false h over = refl
+
+pub too_many_fail : (test : Page → Bool) (pages : List Page) (start count : ℕ) → length pages < count → all_from test pages start count ≡ false
+too_many_fail test pages start count over = too_many_by test pages start count (all_from test pages start count) refl over
+
+-- pages that became the same leave a whole list
+pub length-with_pages : (pages : List Page) (index count : ℕ) (page : Page) → index + count ≤ length pages → length (with_pages pages index count page) ≡ length pages
+unfolding with_pages
+length-with_pages pages index count page h = simp (length-append, length-replicate, length-take, length-drop) (omega arith)
+
+pub all-with_pages : (P : Page → Type 0) (pages : List Page) (index count : ℕ) (page : Page) → All P pages → P page → All P (with_pages pages index count page)
+unfolding with_pages
+all-with_pages P pages index count page all here =
+    All-append P (take index pages ++ replicate count page) (drop (index + count) pages)
+    (All-append P (take index pages) (replicate count page) (All-take P index pages all) (All-replicate P count page here)) (All-drop P (index + count) pages all)
+
+pub whole_changed : (base key key' : ℕ) (pages pages' : List Page) (start count : ℕ) (page : Page) → Whole (record { base = base; pages = pages; key = key }) → start + count ≤ length pages → IsNobodys page
+    → pages' ≡ with_pages pages start count page → key' ≡ next_key key → Whole (record { base = base; pages = pages'; key = key' })
+whole_changed base key key' pages pages' start count page whole inside nobodys p k =
+    let low = whole.key_low in
+    let high = whole.key_high in
+    record {
+      ram = rw (p, length-with_pages pages start count page inside) whole.ram;
+      free = rw p (all-with_pages IsNobodys pages start count page whole.free nobodys);
+      key_low = omega arith;
+      key_high = omega arith;
+    }

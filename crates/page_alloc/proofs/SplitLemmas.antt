@@ -10,7 +10,7 @@ use Rattle.page_alloc.specs.declared.runs.Run.{Run}
 use Rattle.page_alloc.specs.Runs.{all_pages, NoneEmpty}
 use Rattle.page_alloc.specs.Pages.{with_pages}
 use Rattle.page_alloc.proofs.RunLemmas.{pages-append, one_run, not_empty, before_more}
-use Rattle.page_alloc.proofs.EditLemmas.{around, parts, parted_is, parted_pages, parted_none, joined_is, joined_pages, joined_none, replaced_is, replaced_pages, replaced_none, before_grows, fewer_runs, length-with_pages}
+use Rattle.page_alloc.proofs.EditLemmas.{around, parts, parted_is, parted_pages, parted_none, joined_is, joined_pages, joined_none, replaced_is, replaced_pages, replaced_none, before_grows, fewer_runs}
 
 -- a run that is read at a place is the one there at any default
 pub read : (xs : List Run) (i : ℕ) (run d : Run) → i < length xs → run ≡ get_or xs i run → run ≡ get_or xs i d

@@ -17,9 +17,13 @@ abbrev pub given : PageList → ℕ → Option ℕ → Result ℕ PageRefusal
 given m kind None = if kind == 2 then Err NotFound else Err NoPages
 given m kind (Some start) = Ok (m.base + 4096 * start)
 
+-- a kind and a memory type that have a meaning, and pages to give
+unfoldable pub is_request : ℕ → ℕ → ℕ → Bool
+is_request kind memory_type pages = nat_le kind 2 && (nat_lt 0 pages && may_be_given memory_type)
+
 -- AllocatePages: the address of the pages
 unfoldable pub allocation : PageList → ℕ → ℕ → ℕ → ℕ → Result ℕ PageRefusal
-allocation m kind memory_type pages at = if nat_le kind 2 && (nat_lt 0 pages && may_be_given memory_type) then given m kind (fit m kind at pages) else Err Invalid
+allocation m kind memory_type pages at = if is_request kind memory_type pages then given m kind (fit m kind at pages) else Err Invalid
 
 -- the list behind it
 abbrev pub after_allocation : Result ℕ PageRefusal → PageList → Owner → ℕ → ℕ → PageList

@@ -1,16 +1,18 @@
 //! The map of the pages of RAM.
 #![tactic(auto)]
 
-ghost use Rattle.std.specs.Prelude.{◌≡◌, IfOk};
+ghost use Rattle.std.specs.Prelude.{◌≡◌, ◌<◌, ◌≤◌, ◌+◌, ◌-◌, ◌*◌, ◌/◌, ℕ, IfOk, ◌^◌, IsTrue, IfSome, IfNone, OnSome, length};
 ghost use Rattle.std.specs.Option.{option_map};
 ghost use Rattle.page_alloc.specs.Layout.{IsLayout};
-ghost use Rattle.page_alloc.specs.Pages.{PageList, Whole, page_at};
+ghost use Rattle.page_alloc.specs.Pages.{PageList, Whole, page_at, changed, index_of, IsNobodys};
+ghost use Rattle.page_alloc.specs.Calls.{allocation, after_allocation, owns, freeing, after_freeing};
 ghost use Rattle.page_alloc.specs.Opening.{at_opening};
+ghost use Rattle.page_alloc.specs.Fit.{IsGreatest, is_room, fit};
 ghost use Rattle.page_alloc.specs.Runs.{all_pages, NoneEmpty};
 
 use crate::layout::Layout;
-use crate::page::Owner;
-use crate::runs::{Run, opening_runs, page_in};
+use crate::page::{CONVENTIONAL, Owner, Page, PageRefusal, is_request};
+use crate::runs::{Run, are_owned, fill, highest_room, opening_runs, page_in};
 use std::alloc::{AllocError, Global};
 use std::marker::Model;
 
@@ -100,5 +102,177 @@ impl PageMap {
             runs,
             key: self.key,
         })
+    }
+
+    /// How many pages there are.
+    fn total(&self) -> u64
+        ensures { result ≡ length self.now.pages }
+    {
+        u64::from(self.pages)
+    }
+
+    /// How many pages from the base on end at most at an address.
+    fn pages_up_to(&self, at: u64) -> u64
+        ensures { result ≡ (at + 1 - self.now.base) / 4096 }
+    {
+        if at < self.base {
+            0
+        } else {
+            (at - self.base + 1) / 4096
+        }
+    }
+
+    /// How many pages lie below the one that begins at an address.
+    fn start_at(&self, at: u64) -> Option<u64>
+        ensures some { IfSome result (λ start. self.now.base + 4096 * start ≡ at) }
+        ensures none { IfNone result ((start : ℕ) → self.now.base + 4096 * start ≡ at → ⊥) }
+    {
+        if at < self.base || (at - self.base) % 4096 != 0 {
+            None
+        } else {
+            Some((at - self.base) / 4096)
+        }
+    }
+
+    /// The greatest start of so many conventional pages that end at most at a limit, in pages from the base.
+    fn highest(&self, pages: u64, limit: u64) -> Option<u64>
+        requires { 0 < pages }
+        ensures { IsGreatest (is_room self.now.pages pages limit) result }
+    {
+        highest_room(self.runs.as_slice(), pages, limit)
+    }
+
+    /// The address as the start of so many conventional pages, in pages from the base.
+    fn fit_at(&self, at: u64, pages: u64) -> Option<u64>
+        requires some { 0 < pages }
+        requires few { pages ≤ length self.now.pages }
+        ensures { result ≡ fit self.now 2 at pages }
+    {
+        self.whole();
+        let Some(start) = self.start_at(at) else {
+            return None;
+        };
+        if self.highest(pages, start + pages) == Some(start) {
+            Some(start)
+        } else {
+            None
+        }
+    }
+
+    /// The fit of a request, by its kind.
+    fn fit_of(&self, kind: u32, at: u64, pages: u64) -> Option<u64>
+        requires some { 0 < pages }
+        requires kind { kind ≤ 2 }
+        ensures { result ≡ fit self.now kind at pages }
+    {
+        if pages > self.total() {
+            return None;
+        }
+        match kind {
+            0 => self.highest(pages, self.total()),
+            1 => self.highest(pages, self.pages_up_to(at)),
+            _ => self.fit_at(at, pages),
+        }
+    }
+
+    /// The fit of a request, in pages from the base.
+    #[tactic(auto, using(crate::proofs::FitLemmas::fit_few))]
+    fn fit(&self, kind: u32, at: u64, pages: u64) -> Option<u64>
+        requires some { 0 < pages }
+        requires kind { kind ≤ 2 }
+        ensures fit { result ≡ fit self.now kind at pages }
+        ensures inside { IfSome result (λ start. start + pages ≤ length self.now.pages) }
+        ensures few { OnSome result (pages < 2 ^ 32) }
+    {
+        self.whole();
+        self.fit_of(kind, at, pages)
+    }
+
+    /// The address of a page, by its index.
+    fn address(&self, start: u64) -> u64
+        requires { start ≤ length self.now.pages }
+        ensures { result ≡ self.now.base + 4096 * start }
+    {
+        self.whole();
+        self.base + 4096 * start
+    }
+
+    /// Makes so many pages from an address on the same, and raises the key.
+    fn change(&mut self, at: u64, count: u32, page: Page)
+        requires some { 0 < count }
+        requires low { self.old.base ≤ at }
+        requires inside { index_of self.old at + count ≤ length self.old.pages }
+        requires nobodys { IsNobodys page }
+        ensures { self.new ≡ changed self.old at count page }
+    {
+        let start = (at - self.base) / 4096;
+        fill(&mut self.runs, start, count, page);
+        self.key = self.key.saturating_add(1);
+    }
+
+    /// Gives an owner conventional pages, as AllocatePages does (UEFI 2.10, section 7.2), and answers the address of
+    /// the first. Kind 0 takes the highest start, kind 1 the highest whose last byte is at most `at`, and kind 2 the
+    /// start `at`. `Invalid` is for a kind above 2, no pages, or a memory type that pages aren't given; where nothing
+    /// fits, kind 2 answers `NotFound` and the others `NoPages`. It takes no memory.
+    #[tactic(auto, unfolding(crate::specs::Calls::allocation))]
+    pub fn allocate(
+        &mut self,
+        owner: Owner,
+        kind: u32,
+        memory_type: u32,
+        pages: u64,
+        at: u64,
+    ) -> Result<u64, PageRefusal>
+        ensures answer { result ≡ allocation self.old kind memory_type pages at }
+        ensures map { self.new ≡ after_allocation result self.old owner memory_type pages }
+    {
+        if !is_request(kind, memory_type, pages) {
+            return Err(PageRefusal::Invalid);
+        }
+        match self.fit(kind, at, pages) {
+            Some(start) => {
+                let given = self.address(start);
+                self.change(given, pages as u32, Page { memory_type, owner });
+                Ok(given)
+            }
+            None if kind == 2 => Err(PageRefusal::NotFound),
+            None => Err(PageRefusal::NoPages),
+        }
+    }
+
+    /// Whether so many pages from an address on, a multiple of 4,096, are all an owner's.
+    #[tactic(auto, unfolding(crate::specs::Calls::owns), using(crate::proofs::PageLemmas::too_many_fail))]
+    fn owns(&self, owner: Owner, at: u64, pages: u64) -> bool
+        requires { 0 < pages }
+        ensures owns { result ≡ owns self.now owner at pages }
+        ensures low { IsTrue result → self.now.base ≤ at }
+        ensures inside { IsTrue result → index_of self.now at + pages ≤ length self.now.pages }
+    {
+        if at < self.base {
+            return false;
+        }
+        if pages > self.total() {
+            return false;
+        }
+        are_owned(self.runs.as_slice(), (at - self.base) / 4096, pages, owner)
+    }
+
+    /// Takes an owner's pages back, as FreePages does (UEFI 2.10, section 7.2); they are then conventional. `Invalid`
+    /// is for an address that is no multiple of 4,096 and for no pages, `NotFound` for a page that isn't the owner's.
+    /// It takes no memory.
+    #[tactic(auto, unfolding(crate::specs::Calls::freeing))]
+    pub fn free(&mut self, owner: Owner, at: u64, pages: u64) -> Result<(), PageRefusal>
+        ensures answer { result ≡ freeing self.old owner at pages }
+        ensures map { self.new ≡ after_freeing result self.old at pages }
+    {
+        if at % 4096 != 0 || pages == 0 {
+            return Err(PageRefusal::Invalid);
+        }
+        if !self.owns(owner, at, pages) {
+            return Err(PageRefusal::NotFound);
+        }
+        self.whole();
+        self.change(at, pages as u32, CONVENTIONAL);
+        Ok(())
     }
 }

@@ -1,7 +1,7 @@
 //! Runs of equal pages.
 #![tactic(auto)]
 
-ghost use Rattle.std.specs.Prelude.{◌≡◌, ◌≤◌, ◌<◌, ◌+◌, ◌-◌, ◌/◌, ◌^◌, IfOk, Some, None, length, nat_le, if◌then◌else◌, vec_capacity, vec_len, take, drop, ◌++◌, ℕ, slice_get, slice_index_or};
+ghost use Rattle.std.specs.Prelude.{IsTrue, ◌≡◌, ◌≤◌, ◌<◌, ◌+◌, ◌-◌, ◌/◌, ◌^◌, IfOk, Some, None, length, nat_le, if◌then◌else◌, vec_capacity, vec_len, take, drop, ◌++◌, ℕ, slice_get, slice_index_or};
 ghost use Rattle.page_alloc.specs.Layout.{IsLayout};
 ghost use Rattle.page_alloc.specs.Opening.{opening_pages};
 ghost use Rattle.page_alloc.specs.Pages.{is_conventional, all_from, with_pages};
@@ -229,7 +229,8 @@ pub fn are_owned(runs: &[Run], index: u64, count: u64, owner: Owner) -> bool
     requires few { index + count < 2 ^ 64 }
     requires short { length (all_pages runs.now) < 2 ^ 32 }
     requires none_empty { NoneEmpty runs.now }
-    ensures { result ≡ all_from (λ page. is_same_owner page.owner owner) (all_pages runs.now) index count }
+    ensures owned { result ≡ all_from (λ page. is_same_owner page.owner owner) (all_pages runs.now) index count }
+    ensures inside { IsTrue result → index + count ≤ length (all_pages runs.now) }
 {
     let stop = index + count;
     let mut end = 0;

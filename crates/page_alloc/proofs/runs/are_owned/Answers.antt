@@ -6,8 +6,8 @@ use Rattle.page_alloc.proofs.OwnedLemmas.{seen_more, other_owner, owned_all}
 use Rattle.page_alloc.proofs.runs.are_owned.Goals as goal
 use Rattle.page_alloc.proofs.runs.are_owned.Goals.{else-end-index-via-then-end-index+then-start-stop+else-not-is, else-end-index-via-then-end-index+else-start-stop, else-end-index-via-else-end-index}
 
-pub returns-then-not-is : goal.returns-then-not-is
-returns-then-not-is c =
+pub returns-then-not-is-clause-owned : goal.returns-then-not-is-clause-owned
+returns-then-not-is-clause-owned c =
     let i = c.loop-run.invariant in
     let some = not_empty c.args.runs.now c.loop-run.run-index _ c.requires.none_empty c.loop-run-test.true in
     let more : 0 < c.from-end.result = rw c.from-end.ensures some in
@@ -30,7 +30,7 @@ loop-run-preserved c =
           ]);
     }
 
-pub returns : goal.returns
-returns c =
+pub returns-clause-owned : goal.returns-clause-owned
+returns-clause-owned c =
     let i = c.loop-run.invariant in
     owned_all _ _ _ _ _ i.inside (i.front ∙ pages_end c.args.runs.now c.loop-run.run-index c.loop-run-test.false) i.seen
