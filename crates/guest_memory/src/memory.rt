@@ -134,6 +134,29 @@ impl GuestMemory {
         self.touched[page as usize]
     }
 
+    /// The page that holds an address, counted from the base, None outside.
+    pub fn page_at(&self, at: u64) -> Option<u32>
+        ensures { result ≡ (if holds self.now at then Some (page_of self.now at) else None) }
+    {
+        if self.holds(at) {
+            Some(((at - self.base) / PAGE as u64) as u32)
+        } else {
+            None
+        }
+    }
+
+    /// A copy of the touched marks, one for each page.
+    pub fn touched_marks(&self, alloc: Global) -> Result<Vec<bool>, AllocError>
+        ensures { IfOk result (λ marks. marks.items ≡ self.now.touched) }
+    {
+        Vec::from_slice(alloc, &self.touched)
+    }
+
+    /// The allocator that the memory keeps.
+    pub fn allocator(&self) -> Global {
+        *self.touched.allocator()
+    }
+
     fn touch(&mut self, page: u32) -> Result<(), PutEnd>
         requires { page < self.old.pages }
         ensures { TouchGives result self.old self.new page }
