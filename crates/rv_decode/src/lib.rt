@@ -9,6 +9,8 @@ mod immediates;
 mod insn;
 mod ranges;
 mod table;
+#[cfg(test)]
+mod tests;
 mod text;
 
 pub use decoder::{decode, one_row_holds};
