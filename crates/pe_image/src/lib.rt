@@ -13,6 +13,7 @@ mod reading;
 mod sections;
 
 pub use fault::PeFault;
+pub use fields::{u16_in, u32_in, u64_in};
 pub use image::{Image, Section};
 pub use laws::read_images_are_sound;
 pub use placing::place;

@@ -28,9 +28,8 @@ fn rights_of(characteristics: u32) -> u8
 
 /// The section whose header stands at an offset.
 #[tactic(auto, unfolding(crate::specs::ImageOf::section_at))]
-fn section_at(bytes: &[u8], at: u32) -> Section
-    requires inside { at + 40 ≤ length bytes.now }
-    requires at { at < 2 ^ 31 }
+fn section_at(bytes: &[u8], at: usize) -> Section
+    requires { at + 40 ≤ length bytes.now }
     ensures { result ≡ section_at bytes.now at }
 {
     let virtual_size = u32_in(bytes, at + 8);
@@ -92,7 +91,7 @@ pub fn read_sections(
     let mut sections = Vec::new(alloc);
     let mut before = optional.headers;
     for i in 0..count {
-        let section = section_at(bytes, at + 40 * i as u32);
+        let section = section_at(bytes, at as usize + 40 * i as usize);
         before = check_section(&section, i, before, bytes.len(), optional)?;
         sections.push(section)?;
     }
