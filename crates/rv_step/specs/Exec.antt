@@ -1,4 +1,4 @@
--- What an instruction does.
+-- What an instruction does to registers and memory, by what it asks for.
 use Rattle.std.specs.Prelude.{ℕ, ◌==◌, ◌%◌, Bool, List, Option, Some, None, Result, Ok, Err, if◌then◌else◌, slice_set, ◌<◌, IsTrue}
 use Rattle.rv_decode.specs.declared.insn.Insn.{Insn}
 use Rattle.rv_step.specs.declared.bus.Access.{Access}
@@ -12,18 +12,19 @@ use Rattle.rv_step.specs.Values.{plus, widened}
 use Rattle.rv_step.specs.Asks.{asks}
 use Rattle.rv_decode.specs.Means.{decoded}
 
--- what an instruction works on
+-- what an instruction works on: registers x0 to x31, the program counter, and the byte at each address
 pub record State : Type 0 where
   pub x : List ℕ
   pub pc : ℕ
   pub bytes : ℕ → ℕ
 
--- What an instruction comes to: a new state, one with a number of so many bytes stored, or a trap.
+-- What an instruction comes to: a new state, a new state with a number of so many bytes stored, or a trap.
 pub data Outcome : Type 0 where
   Went : (to : State) → Outcome
   Stored : (at width value : ℕ) (to : State) → Outcome
   Stopped : (trap : Trap) → Outcome
 
+-- which accesses an address allows
 abbrev pub Rights : Type 0
 Rights = Access → ℕ → Bool
 
@@ -31,6 +32,7 @@ Rights = Access → ℕ → Bool
 abbrev pub written : List ℕ → ℕ → ℕ → List ℕ
 written x rd value = if rd == 0 then x else slice_set x rd value
 
+-- a number of so many bytes as it is loaded, with or without its sign
 abbrev pub as_read : Bool → ℕ → ℕ → ℕ
 as_read sign width n = if sign then widened width n else n
 

@@ -4,3 +4,4 @@ pub mod Asks
 pub mod Exec
 pub mod Steps
 pub mod Numbers
+pub mod Memory

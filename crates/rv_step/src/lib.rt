@@ -8,11 +8,13 @@ mod hart;
 mod laws;
 mod perform;
 mod regs;
+#[cfg(test)]
+mod tests;
 mod values;
 
 pub use ask::{Ask, asked};
 pub use bus::{Access, Bus, BusEnd};
 pub use ends::{StepEnd, Trap};
 pub use hart::step;
-pub use laws::asks_fit;
+pub use laws::{asks_fit, other_bytes_stay, stored_is_loaded, stores_its_bytes};
 pub use regs::Regs;
