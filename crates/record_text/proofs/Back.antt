@@ -1,0 +1,142 @@
+-- A line's text is guessed to be that line's.
+use Rattle.std.proofs.Common.{◌≡◌, ℕ, zero, suc, ◌+◌, ◌/◌, ◌%◌, ◌^◌, ◌<◌, List, [], ◌∷◌, ◌++◌, length, take, drop, codes, true, false, Some, None, refl, sym, rules, arith, append_assoc}
+use Rattle.std.proofs.lemmas.Bool.{and_parts}
+use Rattle.std.proofs.lemmas.Bool.Decides.{nat_tests}
+use Rattle.std.proofs.lemmas.List.{take_at, drop_at, length-append}
+use Rattle.std.specs.Fmt.{decimal}
+use Rattle.std.specs.List.{position_or_len, list_all}
+use Rattle.uh_base.specs.Hex.{hex_digit, hex_digits}
+use Rattle.uh_base.specs.Names.{is_name, is_name_byte}
+use Rattle.uh_base.specs.Numbers.{hexadecimal_number}
+use Rattle.uh_base.proofs.NumberLemmas.{number_of_decimal, number_of_hex_digits}
+use Rattle.record_text.specs.Causes.{cause_name, cause_of}
+use Rattle.record_text.specs.Texts.{text_of, IsLine}
+use Rattle.record_text.specs.Guesses.{is_space, cut, small_number, load_of, start_of, halt_of, with_word, guess_of}
+use Rattle.record_text.specs.declared.cause.Cause.{Cause}
+use Rattle.record_text.specs.declared.cause.Cause.TheVariants as causes
+use Rattle.record_text.specs.declared.line.Line.{Line}
+use Rattle.record_text.specs.declared.line.Line.TheVariants.{Console, Load, Start, Halt, End}
+
+-- ---- words
+
+abbrev NoSpace : List ℕ → Type 0
+NoSpace [] = Unit {0}
+NoSpace (c ∷ cs) = (is_space c ≡ false) × NoSpace cs
+
+NoSpace-append : (a b : List ℕ) → NoSpace a → NoSpace b → NoSpace (a ++ b)
+NoSpace-append [] b p q = q
+NoSpace-append (c ∷ cs) b p q = (p.0, NoSpace-append cs b p.1 q)
+
+word_end : (w r : List ℕ) → NoSpace w → position_or_len is_space (w ++ 32 ∷ r) ≡ length w
+word_end [] r h = refl
+word_end (c ∷ cs) r h = let f = h.0 in rw f (grind (arith, word_end cs r h.1))
+
+no_end : (w : List ℕ) → NoSpace w → position_or_len is_space w ≡ length w
+no_end [] h = refl
+no_end (c ∷ cs) h = let f = h.0 in rw f (grind (arith, no_end cs h.1))
+
+cut_word : (w r : List ℕ) → NoSpace w → cut (w ++ 32 ∷ r) ≡ Some (w, r)
+unfolding cut
+cut_word w r h =
+    let at : position_or_len is_space (w ++ 32 ∷ r) ≡ length w = word_end w r h in
+    let front : take (length w) (w ++ 32 ∷ r) ≡ w = take_at w (32 ∷ r) (length w) refl in
+    let same : w ++ 32 ∷ r ≡ (w ++ 32 ∷ []) ++ r = sym (append_assoc w (32 ∷ []) r) in
+    let back : drop (length w + 1) (w ++ 32 ∷ r) ≡ r = rw same (drop_at (w ++ 32 ∷ []) r (length w + 1) (length-append w (32 ∷ []))) in
+    let long : length (w ++ 32 ∷ r) ≡ length w + suc (length r) = length-append w (32 ∷ r) in
+    rw (at, front, back, long) (grind (arith, nat_tests))
+
+cut_none : (w : List ℕ) → NoSpace w → cut w ≡ None
+unfolding cut
+cut_none w h = rw (no_end w h) (grind (arith, nat_tests))
+
+-- ---- words that have no space
+
+digit_no_space : (d : ℕ) → d < 16 → is_space (hex_digit d) ≡ false
+digit_no_space d h = grind (arith, nat_tests)
+
+hex_no_space : (k n : ℕ) → NoSpace (hex_digits k n)
+unfolding hex_digits
+hex_no_space zero n = tt
+hex_no_space (suc k) n = NoSpace-append (hex_digits k (n / 16)) (hex_digit (n % 16) ∷ []) (hex_no_space k (n / 16)) (digit_no_space (n % 16) (omega arith), tt)
+
+byte_no_space : (c : ℕ) → is_name_byte c ≡ true → is_space c ≡ false
+byte_no_space c h = grind (arith, nat_tests, h)
+
+bytes_no_space : (s : List ℕ) → list_all is_name_byte s ≡ true → NoSpace s
+bytes_no_space [] h = tt
+bytes_no_space (c ∷ cs) h = let p = and_parts _ _ h in (byte_no_space c p.0, bytes_no_space cs p.1)
+
+name_no_space : (s : List ℕ) → is_name s ≡ true → NoSpace s
+name_no_space s h = bytes_no_space s (and_parts _ _ (and_parts _ _ h).1).1
+
+cause_no_space : (cause : Cause) → NoSpace (cause_name cause)
+cause_no_space causes.Illegal = search rules
+cause_no_space causes.Ebreak = search rules
+cause_no_space causes.Ecall = search rules
+cause_no_space causes.Fetch = search rules
+cause_no_space causes.Load = search rules
+cause_no_space causes.Store = search rules
+cause_no_space causes.Bound = search rules
+cause_no_space causes.Idle = search rules
+cause_no_space causes.Tpl = search rules
+cause_no_space causes.BootGone = search rules
+cause_no_space causes.Depth = search rules
+cause_no_space causes.Frames = search rules
+
+-- ---- words that are read back
+
+cause_back : (cause : Cause) → cause_of (cause_name cause) ≡ Some cause
+unfolding cause_of
+cause_back causes.Illegal = refl
+cause_back causes.Ebreak = refl
+cause_back causes.Ecall = refl
+cause_back causes.Fetch = refl
+cause_back causes.Load = refl
+cause_back causes.Store = refl
+cause_back causes.Bound = refl
+cause_back causes.Idle = refl
+cause_back causes.Tpl = refl
+cause_back causes.BootGone = refl
+cause_back causes.Depth = refl
+cause_back causes.Frames = refl
+
+hex_back : (n : ℕ) → n < 2 ^ 64 → hexadecimal_number (hex_digits 16 n) ≡ Some n
+hex_back n h = number_of_hex_digits 16 n (omega arith) (omega arith) h
+
+small_back : (n : ℕ) → n < 2 ^ 32 → small_number (decimal n) ≡ Some n
+unfolding small_number
+small_back n h = rw (number_of_decimal n (omega arith)) (grind (arith, nat_tests))
+
+-- ---- lines
+
+pub guess_text : (line : Line) → IsLine line → guess_of (text_of line) ≡ Some line
+unfolding guess_of with_word text_of load_of start_of halt_of
+guess_text (Console text) f = rw (cut_word (codes "console") text (search rules)) refl
+guess_text (Load name h0 h1 pages) f =
+    rw (
+      cut_word (codes "load") _ (search rules),
+      cut_word name _ (name_no_space name f.0),
+      cut_word (hex_digits 16 h0) _ (hex_no_space 16 h0),
+      cut_word (hex_digits 16 h1) _ (hex_no_space 16 h1),
+      hex_back h0 f.1.0,
+      hex_back h1 f.1.1,
+      small_back pages f.1.2,
+    ) refl
+guess_text (Start name h0 steps) f =
+    rw (
+      cut_word (codes "start") _ (search rules),
+      cut_word name _ (name_no_space name f.0),
+      cut_word (hex_digits 16 h0) _ (hex_no_space 16 h0),
+      hex_back h0 f.1.0,
+      number_of_decimal steps f.1.1,
+    ) refl
+guess_text (Halt cause h0 h1) f =
+    rw (
+      cut_word (codes "halt") _ (search rules),
+      cut_word (cause_name cause) _ (cause_no_space cause),
+      cut_word (hex_digits 16 h0) _ (hex_no_space 16 h0),
+      cause_back cause,
+      hex_back h0 f.1.0,
+      hex_back h1 f.1.1,
+    ) refl
+guess_text End f = rw (cut_none (codes "end") (search rules)) refl

@@ -1,0 +1,72 @@
+-- The one line that a text may be the text of.
+use Rattle.std.specs.Prelude.{ℕ, ◌^◌, List, length, codes, nat_lt, Option, Some, None, option_and_then, option_map, if◌then◌else◌}
+use Rattle.std.specs.List.{before_first, after_first, position_or_len}
+use Rattle.std.specs.Prelude.{Bool, ◌==◌}
+use Rattle.std.specs.Str.{bytes_eq}
+use Rattle.std.specs.Borrow.{Bor}
+use Rattle.uh_base.specs.Numbers.{number_of, hexadecimal_number}
+use Rattle.record_text.specs.Causes.{cause_of}
+use Rattle.record_text.specs.declared.line.Line.{Line}
+use Rattle.record_text.specs.declared.line.Line.TheVariants.{Console, Load, Start, Halt, End}
+
+infixl 10 ◌>>=◌
+abbrev pub ◌>>=◌ : {A B : Type 0} → Option A → (A → Option B) → Option B
+o >>= f = option_and_then f o
+
+abbrev pub is_space : ℕ → Bool
+is_space b = b == 32
+
+-- the first word, and what stands behind the space after it
+unfoldable pub cut : List ℕ → Option (List ℕ × List ℕ)
+cut text = if nat_lt (position_or_len is_space text) (length text) then Some (before_first is_space text, after_first is_space text) else None
+
+abbrev pub seen_cut : Option (Bor (List ℕ) × Bor (List ℕ)) → Option (List ℕ × List ℕ)
+seen_cut parts = option_map (λ p. (p.0.now, p.1.now)) parts
+
+-- a number below 2^32
+unfoldable pub small_number : List ℕ → Option ℕ
+small_number text = number_of text >>= λ n. if nat_lt n (2 ^ 32) then Some n else None
+
+unfoldable pub load_of : List ℕ → Option Line
+load_of text = do
+  name ← cut text
+  first ← cut name.1
+  second ← cut first.1
+  h0 ← hexadecimal_number first.0
+  h1 ← hexadecimal_number second.0
+  pages ← small_number second.1
+  Some (Load name.0 h0 h1 pages)
+
+unfoldable pub start_of : List ℕ → Option Line
+start_of text = do
+  name ← cut text
+  first ← cut name.1
+  h0 ← hexadecimal_number first.0
+  steps ← number_of first.1
+  Some (Start name.0 h0 steps)
+
+unfoldable pub halt_of : List ℕ → Option Line
+halt_of text = do
+  word ← cut text
+  first ← cut word.1
+  cause ← cause_of word.0
+  h0 ← hexadecimal_number first.0
+  h1 ← hexadecimal_number first.1
+  Some (Halt cause h0 h1)
+
+unfoldable pub with_word : List ℕ → List ℕ → Option Line
+with_word word rest =
+    if bytes_eq word (codes "console") then Some (Console rest)
+    else (if bytes_eq word (codes "load") then load_of rest
+    else (if bytes_eq word (codes "start") then start_of rest
+    else (if bytes_eq word (codes "halt") then halt_of rest else None)))
+
+abbrev pub without_word : List ℕ → Option Line
+without_word text = if bytes_eq text (codes "end") then Some End else None
+
+abbrev pub by_cut : List ℕ → Option (List ℕ × List ℕ) → Option Line
+by_cut text None = without_word text
+by_cut text (Some parts) = with_word parts.0 parts.1
+
+unfoldable pub guess_of : List ℕ → Option Line
+guess_of text = by_cut text (cut text)

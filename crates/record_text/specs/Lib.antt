@@ -1,0 +1,4 @@
+pub mod Causes
+pub mod Console
+pub mod Guesses
+pub mod Texts

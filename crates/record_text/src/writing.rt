@@ -1,0 +1,51 @@
+//! The text of a line.
+ghost use Rattle.std.specs.Prelude.{◌≡◌, IfOk, string_bytes};
+ghost use Rattle.uh_base.specs.Hex.{hex_digits};
+ghost use Rattle.record_text.specs.Texts.{text_of};
+
+use crate::line::Line;
+use std::alloc::{AllocError, Global};
+use uh_base::hex_text;
+
+/// A 64-bit number as lines have it: 16 hexadecimal digits.
+fn word(alloc: Global, n: u64) -> Result<String, AllocError>
+    ensures { IfOk result (λ s. string_bytes s ≡ hex_digits 16 n) }
+{
+    hex_text(alloc, 16, n)
+}
+
+/// The text of a line, without the line end.
+#[tactic(auto, unfolding(crate::specs::Texts::text_of))]
+pub fn line_text(alloc: Global, line: &Line) -> Result<String, AllocError>
+    ensures { IfOk result (λ s. string_bytes s ≡ text_of line.now) }
+{
+    match line {
+        Line::Console { text } => format!(in alloc; "console {}", text.as_str()),
+        Line::Load {
+            name,
+            h0,
+            h1,
+            pages,
+        } => {
+            let h0 = word(alloc, *h0)?;
+            let h1 = word(alloc, *h1)?;
+            format!(in alloc;
+                "load {} {} {} {}",
+                name.as_str(),
+                h0.as_str(),
+                h1.as_str(),
+                *pages
+            )
+        }
+        Line::Start { name, h0, steps } => {
+            let h0 = word(alloc, *h0)?;
+            format!(in alloc; "start {} {} {}", name.as_str(), h0.as_str(), *steps)
+        }
+        Line::Halt { cause, h0, h1 } => {
+            let h0 = word(alloc, *h0)?;
+            let h1 = word(alloc, *h1)?;
+            format!(in alloc; "halt {} {} {}", cause.name(), h0.as_str(), h1.as_str())
+        }
+        Line::End => String::from_str(alloc, "end"),
+    }
+}
