@@ -70,6 +70,13 @@ impl PageMap {
         self.key
     }
 
+    /// The first byte of RAM.
+    pub fn base(&self) -> u64
+        ensures { result ≡ self.now.base }
+    {
+        self.base
+    }
+
     /// The memory type and the owner of the page at an address, None outside RAM.
     #[tactic(auto, unfolding(crate::specs::Pages::page_at))]
     pub fn type_at(&self, at: u64) -> Option<(u32, Owner)>

@@ -1,0 +1,4 @@
+pub mod Map
+pub mod Bytes
+pub use Rattle.page_alloc.specs.Pages
+pub use Rattle.page_alloc.specs.Runs

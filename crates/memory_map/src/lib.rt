@@ -1,0 +1,10 @@
+//! The memory map that a guest asks for.
+#![tactic(auto)]
+
+mod descriptor;
+mod map;
+mod write;
+
+pub use descriptor::{Descriptor, TooSmall};
+pub use map::{descriptor_at, descriptors};
+pub use write::write_map;
