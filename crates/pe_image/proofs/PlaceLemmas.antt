@@ -14,17 +14,17 @@ use Rattle.pe_image.proofs.SoundLemmas.{InOrder, sections_in_order, is_image, is
 use borrow.Rule.Slice.PartMut.{put_mid}
 
 -- a list with a part written over, before the part, in it and behind it
-get_or-before : (a n : ℕ) (xs ys : List ℕ) (i : ℕ) → i < a → a ≤ length xs → get_or (put_mid a n xs ys) i 0 ≡ get_or xs i 0
-get_or-before a n xs ys i before fits = search (rules, places)
+pub get_or-before : {X : Type 0} (a n : ℕ) (xs ys : List X) (i : ℕ) (d : X) → i < a → a ≤ length xs → get_or (put_mid a n xs ys) i d ≡ get_or xs i d
+get_or-before a n xs ys i d before fits = search (rules, places)
 
-get_or-in : (a n : ℕ) (xs ys : List ℕ) (i : ℕ) → length ys ≡ n → a + n ≤ length xs → a ≤ i → i < a + n → get_or (put_mid a n xs ys) i 0 ≡ get_or ys (i - a) 0
-get_or-in a n xs ys i long fits behind before = search (rules, places)
+pub get_or-in : {X : Type 0} (a n : ℕ) (xs ys : List X) (i : ℕ) (d : X) → length ys ≡ n → a + n ≤ length xs → a ≤ i → i < a + n → get_or (put_mid a n xs ys) i d ≡ get_or ys (i - a) d
+get_or-in a n xs ys i d long fits behind before = search (rules, places)
 
-get_or-behind : (a n : ℕ) (xs ys : List ℕ) (i : ℕ) → length ys ≡ n → a + n ≤ length xs → a + n ≤ i → get_or (put_mid a n xs ys) i 0 ≡ get_or xs i 0
-get_or-behind a n xs ys i long fits behind =
+pub get_or-behind : {X : Type 0} (a n : ℕ) (xs ys : List X) (i : ℕ) (d : X) → length ys ≡ n → a + n ≤ length xs → a + n ≤ i → get_or (put_mid a n xs ys) i d ≡ get_or xs i d
+get_or-behind a n xs ys i d long fits behind =
     let same : a + (n + (i - a - n)) ≡ i = omega arith in
-    let e : get_or (put_mid a n xs ys) i 0 ≡ get_or xs (a + (n + (i - a - n))) 0 = search (rules, places) in
-    e ∙ ap (λ (k : ℕ). get_or xs k 0) same
+    let e : get_or (put_mid a n xs ys) i d ≡ get_or xs (a + (n + (i - a - n))) d = search (rules, places) in
+    e ∙ ap (λ (k : ℕ). get_or xs k d) same
 
 -- a list with a part of a file written over it from an offset on
 pub get_or-copied : (at copied raw : ℕ) (xs file ys : List ℕ) (i : ℕ) → at + copied ≤ length xs → raw + copied ≤ length file → ys ≡ take (raw + copied - raw) (drop raw file)
@@ -36,16 +36,16 @@ get_or-copied at copied raw xs file ys i room within is =
     let long : length ys ≡ copied = ap length ys_is ∙ simp (length-take, length-drop) (omega arith) in
     elim (cases_lt i at) [
       | inl before ↦
-          let same : get_or (put_mid at copied xs ys) i 0 ≡ get_or xs i 0 = get_or-before at copied xs ys i before (omega arith) in
+          let same : get_or (put_mid at copied xs ys) i 0 ≡ get_or xs i 0 = get_or-before at copied xs ys i 0 before (omega arith) in
           rw part (same ∙ grind (arith, nat_tests))
       | inr behind ↦
           elim (cases_lt i (at + copied)) [
             | inl before ↦
-                let same : get_or (put_mid at copied xs ys) i 0 ≡ get_or ys (i - at) 0 = get_or-in at copied xs ys i long room behind before in
+                let same : get_or (put_mid at copied xs ys) i 0 ≡ get_or ys (i - at) 0 = get_or-in at copied xs ys i 0 long room behind before in
                 let of_file : get_or ys (i - at) 0 ≡ get_or file (raw + (i - at)) 0 = rw ys_is (get_or-take copied (drop raw file) (i - at) 0 (omega arith) ∙ get_or-drop raw file (i - at) 0) in
                 rw part (same ∙ of_file ∙ grind (arith, nat_tests))
             | inr after ↦
-                let same : get_or (put_mid at copied xs ys) i 0 ≡ get_or xs i 0 = get_or-behind at copied xs ys i long room after in
+                let same : get_or (put_mid at copied xs ys) i 0 ≡ get_or xs i 0 = get_or-behind at copied xs ys i 0 long room after in
                 rw part (same ∙ grind (arith, nat_tests))
           ]
     ]

@@ -1,0 +1,4 @@
+pub mod MarkLemmas
+pub mod EntryLemmas
+pub mod BlockLemmas
+pub mod SiteLemmas

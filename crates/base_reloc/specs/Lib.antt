@@ -1,0 +1,5 @@
+pub mod Sites
+pub mod Blocks
+pub mod Kept
+pub mod Marks
+pub mod Steps
