@@ -2,3 +2,4 @@ pub mod MarkLemmas
 pub mod EntryLemmas
 pub mod BlockLemmas
 pub mod SiteLemmas
+pub mod MoveLemmas

@@ -3,3 +3,4 @@ pub mod Blocks
 pub mod Kept
 pub mod Marks
 pub mod Steps
+pub mod Moved

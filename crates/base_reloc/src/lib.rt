@@ -5,9 +5,11 @@
 
 mod entry;
 mod fault;
+mod moving;
 mod reading;
 mod site;
 
 pub use fault::RelocFault;
+pub use moving::apply;
 pub use reading::read_sites;
 pub use site::{Site, SiteKind};
