@@ -24,11 +24,11 @@ spliced items slice part i last n len s l p e h =
     rw whole (take_at (take i items ++ (part ++ drop n (drop i items))) _ len long)
 
 -- a reserve changes no byte and no right
-same_bytes : (old new : Pages) → new ≡ record old { touched = new.touched } → bytes_of new ≡ bytes_of old
+pub same_bytes : (old new : Pages) → new ≡ record old { touched = new.touched } → bytes_of new ≡ bytes_of old
 unfolding bytes_of
 same_bytes old new e = rw e refl
 
-same_rights : (old new : Pages) → new ≡ record old { touched = new.touched } → rights_at new ≡ rights_at old
+pub same_rights : (old new : Pages) → new ≡ record old { touched = new.touched } → rights_at new ≡ rights_at old
 unfolding rights_at
 same_rights old new e = rw e refl
 
@@ -115,7 +115,7 @@ some_cond : (t : Bool) (r s : Rights) → Some (cond t r s) ≡ cond t (Some r) 
 some_cond true r s = refl
 some_cond false r s = refl
 
-page_held : (m : Pages) (a : ℕ) → holds m a ≡ true → page_of m a < m.pages
+pub page_held : (m : Pages) (a : ℕ) → holds m a ≡ true → page_of m a < m.pages
 page_held m a h = grind (arith, nat_tests)
 
 filled_at : (m : Pages) (page count a : ℕ) (r : Rights) → Whole m → page + count ≤ m.pages → (h : Bool) → holds m a ≡ h

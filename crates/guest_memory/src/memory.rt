@@ -152,11 +152,6 @@ impl GuestMemory {
         Vec::from_slice(alloc, &self.touched)
     }
 
-    /// The allocator that the memory keeps.
-    pub fn allocator(&self) -> Global {
-        *self.touched.allocator()
-    }
-
     fn touch(&mut self, page: u32) -> Result<(), PutEnd>
         requires { page < self.old.pages }
         ensures { TouchGives result self.old self.new page }

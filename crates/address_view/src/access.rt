@@ -1,0 +1,167 @@
+//! Loads through a view.
+#![tactic(auto)]
+
+ghost use Rattle.std.specs.Prelude.{◌≡◌, ◌<◌, ◌≤◌, ◌+◌, ◌%◌, ◌^◌, IsTrue, IfSome, IfOk};
+ghost use Rattle.rv_step.specs.declared.bus.Access.{Access};
+ghost use Rattle.uh_base.specs.Bytes.{is_width, loaded, first_refused, number_at};
+ghost use Rattle.guest_memory.specs.Pages.{bytes_of, rights_at};
+ghost use Rattle.address_view.specs.Windows.{seen_bytes};
+ghost use Rattle.address_view.specs.Seen.{may, view_allows, OnePage};
+
+use crate::view::View;
+use guest_memory::{GuestMemory, Rights};
+use rv_step::Access;
+
+fn allows(rights: Rights, kind: Access) -> bool
+    ensures { result ≡ may kind (Some rights) }
+{
+    match kind {
+        Access::Load => rights.read,
+        Access::Store => rights.write,
+        Access::Fetch => rights.exec,
+    }
+}
+
+/// The place of so many bytes, if they lie in one window and one page that allows the access.
+#[tactic(auto, using(crate::proofs::PageRun::one_page_is))]
+pub(crate) fn one_page(
+    memory: &GuestMemory,
+    view: &View,
+    at: u64,
+    width: u8,
+    kind: Access,
+) -> Option<u64>
+    requires { 1 ≤ width }
+    ensures { IfSome result (λ place. OnePage view.now memory.now kind at width place) }
+{
+    memory.whole();
+    view.whole();
+    let window = match view.window(at) {
+        Some(window) => window,
+        None => return None,
+    };
+    let into = at - window.virt;
+    if window.len - into < u64::from(width) {
+        return None;
+    }
+    let place = window.phys + into;
+    if place % 4096 + u64::from(width) > 4096 {
+        return None;
+    }
+    match memory.rights_at(place) {
+        Some(rights) => {
+            if allows(rights, kind) {
+                Some(place)
+            } else {
+                None
+            }
+        }
+        None => None,
+    }
+}
+
+/// The address behind another. Behind the last one comes 0.
+pub(crate) fn next(at: u64) -> u64
+    ensures { result ≡ (at + 1) % 2 ^ 64 }
+{
+    at.wrapping_add(1)
+}
+
+#[tactic(auto, unfolding(crate::specs::Seen::view_allows))]
+fn allows_at(memory: &GuestMemory, view: &View, at: u64, kind: Access) -> bool
+    ensures { result ≡ view_allows view.now (rights_at memory.now) kind at }
+{
+    match view.translate(at) {
+        Some(place) => match memory.rights_at(place) {
+            Some(rights) => allows(rights, kind),
+            None => false,
+        },
+        None => false,
+    }
+}
+
+/// The first of so many addresses that doesn't allow an access.
+#[tactic(auto, unfolding(uh_base::specs::Bytes::first_refused))]
+pub(crate) fn refused(
+    memory: &GuestMemory,
+    view: &View,
+    at: u64,
+    len: u64,
+    kind: Access,
+) -> Option<u64>
+    ensures { result ≡ first_refused (view_allows view.now (rights_at memory.now) kind) at len }
+{
+    let mut here = at;
+    for _ in 0..len {
+        if !allows_at(memory, view, here, kind) {
+            return Some(here);
+        }
+        here = next(here);
+    }
+    None
+}
+
+/// The byte that is seen at an address, 0 where none is.
+#[tactic(auto, unfolding(crate::specs::Windows::seen_bytes, guest_memory::specs::Pages::bytes_of))]
+pub(crate) fn byte_at(memory: &GuestMemory, view: &View, at: u64) -> u8
+    ensures { result ≡ seen_bytes view.now (bytes_of memory.now) at }
+{
+    match view.translate(at) {
+        Some(place) => match memory.get(place) {
+            Some(byte) => byte,
+            None => 0,
+        },
+        None => 0,
+    }
+}
+
+#[tactic(auto, unfolding(uh_base::specs::Bytes::number_at))]
+fn number_slowly(memory: &GuestMemory, view: &View, at: u64, width: u8) -> u64
+    requires { width ≤ 8 }
+    ensures value { result ≡ number_at (seen_bytes view.now (bytes_of memory.now)) at width }
+    ensures below { result < 256 ^ width }
+{
+    if width == 0 {
+        0
+    } else {
+        u64::from(byte_at(memory, view, at))
+            + 256 * number_slowly(memory, view, next(at), width - 1)
+    }
+}
+
+#[tactic(auto, unfolding(uh_base::specs::Bytes::loaded))]
+fn load_slowly(
+    memory: &GuestMemory,
+    view: &View,
+    at: u64,
+    width: u8,
+    kind: Access,
+) -> Result<u64, u64>
+    requires { width ≤ 8 }
+    ensures loads { result ≡ loaded (seen_bytes view.now (bytes_of memory.now)) (view_allows view.now (rights_at memory.now) kind) at width }
+    ensures below { IfOk result (λ number. number < 256 ^ width) }
+{
+    match refused(memory, view, at, u64::from(width), kind) {
+        Some(refused) => Err(refused),
+        None => Ok(number_slowly(memory, view, at, width)),
+    }
+}
+
+/// The number of so many bytes at an address, or the first address that doesn't allow the access.
+#[tactic(auto, using(crate::proofs::RunLemmas::fast_load))]
+pub(crate) fn load_through(
+    memory: &GuestMemory,
+    view: &View,
+    at: u64,
+    width: u8,
+    kind: Access,
+) -> Result<u64, u64>
+    requires { IsTrue (is_width width) }
+    ensures loads { result ≡ loaded (seen_bytes view.now (bytes_of memory.now)) (view_allows view.now (rights_at memory.now) kind) at width }
+    ensures below { IfOk result (λ number. number < 256 ^ width) }
+{
+    match one_page(memory, view, at, width, kind) {
+        Some(place) => Ok(memory.number(place, width)),
+        None => load_slowly(memory, view, at, width, kind),
+    }
+}

@@ -1,0 +1,379 @@
+//! Stores through a view.
+#![tactic(auto)]
+
+ghost use Rattle.std.specs.Prelude.{◌≡◌, ◌<◌, ◌≤◌, ◌+◌, ◌^◌, ℕ, true, false, IsTrue, IfOk, OnOk, OnErr, Ok, Err, None, length, slice_get};
+ghost use Rattle.rv_step.specs.declared.bus.Access.{Access};
+ghost use Rattle.uh_base.specs.Bytes.{is_width, first_refused};
+ghost use Rattle.rv_step.specs.Stores.{StoreEnds, StoredIn};
+ghost use Rattle.guest_memory.specs.Lists.{count_true};
+ghost use Rattle.guest_memory.specs.Pages.{bytes_of, rights_at, or_false};
+ghost use Rattle.guest_memory.specs.Changes.{TouchedBesides};
+ghost use Rattle.address_view.specs.Windows.{see};
+ghost use Rattle.address_view.specs.Seen.{view_allows, OnePage};
+ghost use Rattle.address_view.specs.Stored.{store_seen, stored, put_seen, mark_seen, marked, is_marked, all_marked, lacks_seen, all_touched, StoreGives, AllowsStores, PageSeen};
+
+use crate::access::{next, one_page, refused};
+use crate::view::View;
+use guest_memory::{GuestMemory, PutEnd};
+use rv_step::{Access, BusEnd};
+use std::alloc::{AllocError, Global};
+use uh_base::write_number;
+
+/// The most pages that are touched at one time.
+const FRAMES: u64 = 65536;
+
+/// The page of the place that an address shows, counted from the base of memory.
+fn page_seen(memory: &GuestMemory, view: &View, at: u64) -> u32
+    requires { view_allows view.now (rights_at memory.now) Access.Store at ≡ true }
+    ensures { PageSeen view.now memory.now at result }
+{
+    let place = match view.translate(at) {
+        Some(place) => place,
+        None => unreachable!(),
+    };
+    match memory.page_at(place) {
+        Some(page) => page,
+        None => unreachable!(),
+    }
+}
+
+/// Whether the page of the place that an address shows is touched.
+#[tactic(auto, using(crate::proofs::LoopLemmas::touched_there))]
+fn is_touched_at(memory: &GuestMemory, view: &View, at: u64) -> bool
+    requires { view_allows view.now (rights_at memory.now) Access.Store at ≡ true }
+    ensures { result ≡ is_marked memory.now.base memory.now.touched (see view.now at) }
+{
+    memory.is_touched(page_seen(memory, view, at))
+}
+
+/// Whether each page that so many addresses show is touched.
+#[tactic(auto, unfolding(crate::specs::Stored::all_marked))]
+fn are_all_touched(memory: &GuestMemory, view: &View, at: u64, len: u64) -> bool
+    requires { AllowsStores view.now memory.now at len }
+    ensures { result ≡ all_touched view.now memory.now at len }
+{
+    let mut here = at;
+    for _ in 0..len {
+        if !is_touched_at(memory, view, here) {
+            return false;
+        }
+        here = next(here);
+    }
+    true
+}
+
+/// Marks the page of the place that an address shows, and says how many marks that adds.
+#[tactic(auto, using(crate::proofs::LoopLemmas::marked_already, crate::proofs::LoopLemmas::marked_anew))]
+fn mark(memory: &GuestMemory, view: &View, marks: &mut Vec<bool>, at: u64) -> u64
+    requires allowed { view_allows view.now (rights_at memory.now) Access.Store at ≡ true }
+    requires long { length marks.old.items ≡ memory.now.pages }
+    ensures marks { marks.new.items ≡ mark_seen memory.now.base marks.old.items (see view.now at) }
+    ensures long { length marks.new.items ≡ memory.now.pages }
+    ensures count { count_true marks.new.items ≡ count_true marks.old.items + result }
+    ensures one { result ≤ 1 }
+{
+    let page = page_seen(memory, view, at) as usize;
+    if marks[page] {
+        return 0;
+    }
+    marks[page] = true;
+    1
+}
+
+/// How many pages would be touched after a store of so many bytes.
+#[tactic(auto, unfolding(crate::specs::Stored::marked))]
+fn count_after(
+    alloc: Global,
+    memory: &GuestMemory,
+    view: &View,
+    at: u64,
+    len: u64,
+) -> Result<u64, AllocError>
+    requires { AllowsStores view.now memory.now at len }
+    ensures { IfOk result (λ count. count ≡ count_true (marked view.now memory.now.base memory.now.touched at len)) }
+{
+    memory.whole();
+    let mut marks = memory.touched_marks(alloc)?;
+    let mut count = u64::from(memory.touched());
+    let mut here = at;
+    for _ in 0..len {
+        count += mark(memory, view, &mut marks, here);
+        here = next(here);
+    }
+    Ok(count)
+}
+
+/// Whether a store of so many bytes would touch more than 65,536 pages. Memory is only needed where it could,
+/// and then only if one of its pages isn't touched.
+#[tactic(auto, using(crate::proofs::MarkedLemmas::room_for, crate::proofs::MarkedLemmas::no_more))]
+fn lacks_frames(
+    alloc: Global,
+    memory: &GuestMemory,
+    view: &View,
+    at: u64,
+    len: u64,
+) -> Result<bool, AllocError>
+    requires { AllowsStores view.now memory.now at len }
+    ensures ok { IfOk result (λ lacks. lacks ≡ lacks_seen view.now memory.now at len) }
+    ensures err { OnErr result (all_touched view.now memory.now at len ≡ false) }
+{
+    memory.whole();
+    if len <= FRAMES - u64::from(memory.touched()) {
+        return Ok(false);
+    }
+    if are_all_touched(memory, view, at, len) {
+        return Ok(false);
+    }
+    let count = count_after(alloc, memory, view, at, len)?;
+    Ok(count > FRAMES)
+}
+
+/// Whether a page is touched or is that of one of so many addresses.
+fn is_met(memory: &GuestMemory, view: &View, at: u64, len: u64, page: u32) -> bool
+    requires allowed { AllowsStores view.now memory.now at len }
+    requires page { page < memory.now.pages }
+    ensures { result ≡ or_false (slice_get (marked view.now memory.now.base memory.now.touched at len) page) }
+{
+    memory.whole();
+    let mut here = at;
+    for _ in 0..len {
+        if page_seen(memory, view, here) == page {
+            return true;
+        }
+        here = next(here);
+    }
+    memory.is_touched(page)
+}
+
+/// How many pages would be touched after a store of so few bytes. No memory is taken.
+fn count_few(memory: &GuestMemory, view: &View, at: u64, len: u64) -> u64
+    requires allowed { AllowsStores view.now memory.now at len }
+    requires few { len ≤ 8 }
+    ensures { result ≡ count_true (marked view.now memory.now.base memory.now.touched at len) }
+{
+    memory.whole();
+    let mut count = u64::from(memory.touched());
+    let mut here = at;
+    for i in 0..len {
+        let page = page_seen(memory, view, here);
+        let met = is_met(memory, view, at, i, page);
+        count += u64::from(!met);
+        here = next(here);
+    }
+    count
+}
+
+/// Whether a store of so few bytes would touch more than 65,536 pages.
+#[tactic(auto, using(crate::proofs::MarkedLemmas::room_for))]
+fn lacks_few(memory: &GuestMemory, view: &View, at: u64, len: u64) -> bool
+    requires allowed { AllowsStores view.now memory.now at len }
+    requires few { len ≤ 8 }
+    ensures { result ≡ lacks_seen view.now memory.now at len }
+{
+    memory.whole();
+    if len <= FRAMES - u64::from(memory.touched()) {
+        return false;
+    }
+    count_few(memory, view, at, len) > FRAMES
+}
+
+/// Touches the page of the place that an address shows.
+fn touch_at(memory: &mut GuestMemory, view: &View, at: u64) -> Result<(), AllocError>
+    requires allowed { view_allows view.now (rights_at memory.old) Access.Store at ≡ true }
+    requires few { count_true (mark_seen memory.old.base memory.old.touched (see view.now at)) ≤ 65536 }
+    ensures ok { OnOk result (memory.new ≡ record memory.old { touched = mark_seen memory.old.base memory.old.touched (see view.now at) }) }
+    ensures err { OnErr result ((is_marked memory.old.base memory.old.touched (see view.now at) ≡ false) × TouchedBesides memory.old memory.new) }
+{
+    memory.whole();
+    let page = page_seen(memory, view, at);
+    match memory.reserve(page, 1) {
+        Ok(()) => Ok(()),
+        Err(PutEnd::Memory) => Err(AllocError),
+        Err(PutEnd::Outside) => unreachable!(),
+        Err(PutEnd::Frames) => unreachable!(),
+    }
+}
+
+/// Touches the pages that so many addresses show.
+fn touch_all(memory: &mut GuestMemory, view: &View, at: u64, len: u64) -> Result<(), AllocError>
+    requires allowed { AllowsStores view.now memory.old at len }
+    requires few { lacks_seen view.now memory.old at len ≡ false }
+    ensures ok { OnOk result (memory.new ≡ record memory.old { touched = marked view.now memory.old.base memory.old.touched at len }) }
+    ensures err { OnErr result ((all_touched view.now memory.old at len ≡ false) × TouchedBesides memory.old memory.new) }
+{
+    let mut here = at;
+    for _ in 0..len {
+        match touch_at(memory, view, here) {
+            Ok(()) => {}
+            Err(end) => return Err(end),
+        }
+        here = next(here);
+    }
+    Ok(())
+}
+
+/// Puts a byte at the place that an address shows, whose page is touched.
+fn put_at(memory: &mut GuestMemory, view: &View, at: u64, byte: u8)
+    requires allowed { view_allows view.now (rights_at memory.old) Access.Store at ≡ true }
+    requires touched { is_marked memory.old.base memory.old.touched (see view.now at) ≡ true }
+    ensures { memory.new ≡ put_seen memory.old byte (see view.now at) }
+{
+    match view.translate(at) {
+        Some(place) => match memory.put(place, byte) {
+            Ok(()) => {}
+            Err(PutEnd::Memory) => unreachable!(),
+            Err(PutEnd::Outside) => unreachable!(),
+            Err(PutEnd::Frames) => unreachable!(),
+        },
+        None => unreachable!(),
+    }
+}
+
+/// Puts bytes at the places that addresses show, whose pages are touched.
+#[tactic(auto, unfolding(crate::specs::Stored::stored))]
+fn put_all(memory: &mut GuestMemory, view: &View, at: u64, bytes: &[u8])
+    requires allowed { AllowsStores view.now memory.old at (length bytes.now) }
+    requires touched { all_touched view.now memory.old at (length bytes.now) ≡ true }
+    ensures { memory.new ≡ stored view.now memory.old at bytes.now }
+{
+    let mut here = at;
+    for byte in bytes {
+        put_at(memory, view, here, *byte);
+        here = next(here);
+    }
+}
+
+/// Stores bytes at addresses that allow it, where there are frames for them.
+fn store_judged(
+    memory: &mut GuestMemory,
+    view: &View,
+    at: u64,
+    bytes: &[u8],
+) -> Result<(), AllocError>
+    requires allowed { AllowsStores view.now memory.old at (length bytes.now) }
+    requires few { lacks_seen view.now memory.old at (length bytes.now) ≡ false }
+    ensures ok { OnOk result (memory.new ≡ stored view.now memory.old at bytes.now) }
+    ensures err { OnErr result ((all_touched view.now memory.old at (length bytes.now) ≡ false) × TouchedBesides memory.old memory.new) }
+{
+    memory.whole();
+    match touch_all(memory, view, at, bytes.len() as u64) {
+        Ok(()) => {
+            put_all(memory, view, at, bytes);
+            Ok(())
+        }
+        Err(end) => Err(end),
+    }
+}
+
+/// Stores bytes at addresses that allow it, all of them or none.
+pub(crate) fn store_all(
+    alloc: Global,
+    memory: &mut GuestMemory,
+    view: &View,
+    at: u64,
+    bytes: &[u8],
+) -> Result<(), PutEnd>
+    requires { AllowsStores view.now memory.old at (length bytes.now) }
+    ensures { StoreGives result view.now memory.old memory.new at bytes.now (length bytes.now) }
+{
+    match lacks_frames(alloc, memory, view, at, bytes.len() as u64) {
+        Ok(false) => match store_judged(memory, view, at, bytes) {
+            Ok(()) => Ok(()),
+            Err(AllocError) => Err(PutEnd::Memory),
+        },
+        Ok(true) => Err(PutEnd::Frames),
+        Err(AllocError) => Err(PutEnd::Memory),
+    }
+}
+
+/// Stores a number where it may meet several pages or windows.
+fn store_slowly(
+    memory: &mut GuestMemory,
+    view: &View,
+    at: u64,
+    width: u8,
+    value: u64,
+) -> Result<(), BusEnd>
+    requires { width ≤ 8 }
+    ensures end { StoreEnds result (first_refused (view_allows view.now (rights_at memory.old) Access.Store) at width) (lacks_seen view.now memory.old at width) (all_touched view.now memory.old at width) }
+    ensures content { StoredIn result memory.old (store_seen view.now memory.old at width value) memory.new }
+    ensures err { OnErr result (bytes_of memory.new ≡ bytes_of memory.old) }
+    ensures rights { rights_at memory.new ≡ rights_at memory.old }
+{
+    match refused(memory, view, at, u64::from(width), Access::Store) {
+        Some(refused) => Err(BusEnd::Outside(refused)),
+        None => store_allowed(memory, view, at, width, value),
+    }
+}
+
+/// Stores a number at addresses that allow it.
+fn store_allowed(
+    memory: &mut GuestMemory,
+    view: &View,
+    at: u64,
+    width: u8,
+    value: u64,
+) -> Result<(), BusEnd>
+    requires few { width ≤ 8 }
+    requires allowed { AllowsStores view.now memory.old at width }
+    ensures end { StoreEnds result None (lacks_seen view.now memory.old at width) (all_touched view.now memory.old at width) }
+    ensures content { StoredIn result memory.old (store_seen view.now memory.old at width value) memory.new }
+    ensures err { OnErr result (bytes_of memory.new ≡ bytes_of memory.old) }
+    ensures rights { rights_at memory.new ≡ rights_at memory.old }
+{
+    if lacks_few(memory, view, at, u64::from(width)) {
+        return Err(BusEnd::Frames);
+    }
+    let mut bytes = [0; 8];
+    write_number(&mut bytes[..width as usize], value);
+    match store_judged(memory, view, at, &bytes[..width as usize]) {
+        Ok(()) => Ok(()),
+        Err(AllocError) => Err(BusEnd::Memory),
+    }
+}
+
+/// Stores a number in one page.
+#[tactic(auto, using(crate::proofs::RunLemmas::fast_content, crate::proofs::RunLemmas::lacks_is, crate::proofs::RunLemmas::unsure))]
+fn store_page(
+    memory: &mut GuestMemory,
+    view: &View,
+    at: u64,
+    width: u8,
+    value: u64,
+    place: u64,
+) -> Result<(), BusEnd>
+    requires width { IsTrue (is_width width) }
+    requires one { OnePage view.now memory.old Access.Store at width place }
+    ensures end { StoreEnds result None (lacks_seen view.now memory.old at width) (all_touched view.now memory.old at width) }
+    ensures content { StoredIn result memory.old (store_seen view.now memory.old at width value) memory.new }
+    ensures err { OnErr result (memory.new ≡ memory.old) }
+{
+    memory.whole();
+    match memory.put_number(place, width, value) {
+        Ok(()) => Ok(()),
+        Err(PutEnd::Frames) => Err(BusEnd::Frames),
+        Err(PutEnd::Memory) => Err(BusEnd::Memory),
+        Err(PutEnd::Outside) => unreachable!(),
+    }
+}
+
+/// Stores a number, or changes no byte.
+#[tactic(auto, using(crate::proofs::RunLemmas::fast_allowed, crate::proofs::StoreLaws::rights_of_stored))]
+pub(crate) fn store_through(
+    memory: &mut GuestMemory,
+    view: &View,
+    at: u64,
+    width: u8,
+    value: u64,
+) -> Result<(), BusEnd>
+    requires { IsTrue (is_width width) }
+    ensures end { StoreEnds result (first_refused (view_allows view.now (rights_at memory.old) Access.Store) at width) (lacks_seen view.now memory.old at width) (all_touched view.now memory.old at width) }
+    ensures content { StoredIn result memory.old (store_seen view.now memory.old at width value) memory.new }
+    ensures err { OnErr result (bytes_of memory.new ≡ bytes_of memory.old) }
+    ensures rights { rights_at memory.new ≡ rights_at memory.old }
+{
+    match one_page(memory, view, at, width, Access::Store) {
+        Some(place) => store_page(memory, view, at, width, value, place),
+        None => store_slowly(memory, view, at, width, value),
+    }
+}
