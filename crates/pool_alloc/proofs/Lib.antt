@@ -1,0 +1,3 @@
+pub mod GapLemmas
+pub mod BlockLemmas
+pub mod PoolLemmas

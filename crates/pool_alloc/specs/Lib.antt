@@ -1,0 +1,5 @@
+pub mod Blocks
+pub mod Pool
+pub mod Calls
+pub use Rattle.page_alloc.specs.Pages
+pub use Rattle.page_alloc.specs.Calls as PageCalls

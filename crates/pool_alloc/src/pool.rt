@@ -1,0 +1,79 @@
+//! The pool.
+#![tactic(auto)]
+
+ghost use Rattle.std.specs.Prelude.{◌≡◌, ◌<◌, ◌≤◌, ◌+◌, ◌%◌, ℕ, IfOk, IfSome, IfNone, OnOk, OnErr, IfErr, length, [], Some, None, slice_set, slice_index_or};
+ghost use Rattle.page_alloc.specs.Pages.{PageList};
+ghost use Rattle.pool_alloc.specs.Pool.{BlockPage, Placed, put_first, with_block_on, CanPut, IsPool, Together};
+
+use crate::block::Block;
+use crate::page::{LARGEST, PoolPage};
+use crate::refusal::PoolRefusal;
+use std::alloc::{AllocError, Global};
+use std::marker::Model;
+
+/// The pool: blocks of guest memory in pages of its own (UEFI 2.10, section 7.2, AllocatePool).
+#[derive(Drop)]
+pub struct Pool {
+    pages: Vec<PoolPage>,
+}
+
+impl Model for Pool {
+    ghost use Rattle.std.specs.Prelude.{List};
+    ghost use Rattle.pool_alloc.specs.Pool.{BlockPage, IsPool};
+
+    ghost Value = { List BlockPage };
+
+    ghost view = { λ p. p.pages.items };
+
+    ghost invariant = { λ p. IsPool p.pages.items };
+}
+
+impl Pool {
+    /// A pool without pages. It takes no memory.
+    pub fn new(alloc: Global) -> Pool
+        ensures { result ≡ [] }
+    {
+        Pool {
+            pages: Vec::new(alloc),
+        }
+    }
+
+    /// What is so of every pool.
+    pub fn whole(&self)
+        ensures { IsPool self.now }
+    {
+        let _ = &self.pages;
+    }
+
+    /// The first page that has a gap for so many bytes of a memory type, by its place, and the lowest gap.
+    fn place(&self, memory_type: u32, size: u64) -> Option<(usize, u64)>
+        requires some { 0 < size }
+        requires few { size ≤ 2048 }
+        requires units { size % 8 ≡ 0 }
+        ensures none { IfNone result (put_first self.now memory_type size ≡ None) }
+        ensures inside { IfSome result (λ place. place.0 < length self.now) }
+        ensures can { IfSome result (λ place. (d : BlockPage) → CanPut (slice_index_or self.now place.0 d).blocks place.1 size) }
+        ensures some { IfSome result (λ place. (d : BlockPage) → put_first self.now memory_type size ≡ Some (record { at = (slice_index_or self.now place.0 d).start + place.1; pages = slice_set self.now place.0 (with_block_on (slice_index_or self.now place.0 d) place.1 size) })) }
+    {
+        for (index, page) in self.pages.iter().enumerate() {
+            if let Some(offset) = page.room(memory_type, size) {
+                return Some((index, offset));
+            }
+        }
+        None
+    }
+
+    /// Puts a block into a gap of a page, and answers its address.
+    fn put(&mut self, index: usize, offset: u64, size: u64) -> Result<u64, AllocError>
+        requires inside { index < length self.old }
+        requires can { (d : BlockPage) → CanPut (slice_index_or self.old index d).blocks offset size }
+        ensures at { IfOk result (λ at. (d : BlockPage) → at ≡ (slice_index_or self.old index d).start + offset) }
+        ensures ok { OnOk result ((d : BlockPage) → self.new ≡ slice_set self.old index (with_block_on (slice_index_or self.old index d) offset size)) }
+        ensures err { OnErr result (self.new ≡ self.old) }
+    {
+        let page = &mut self.pages[index];
+        let at = page.start() + offset;
+        page.put(offset, size)?;
+        Ok(at)
+    }
+}
