@@ -7,3 +7,4 @@ pub mod EditLemmas
 pub mod OwnedLemmas
 pub mod SplitLemmas
 pub mod SamePage
+pub mod CallLemmas

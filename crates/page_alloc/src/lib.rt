@@ -8,5 +8,5 @@ mod runs;
 
 pub use layout::Layout;
 pub use map::PageMap;
-pub use page::{Owner, Page, PageRefusal};
+pub use page::{Owner, Page, PageRefusal, may_be_given};
 pub use runs::Run;

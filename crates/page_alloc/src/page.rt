@@ -46,7 +46,7 @@ pub const CONVENTIONAL: Page = Page {
 
 /// Whether pages may be given a memory type: 0 to 6, 8 to 13, and 0x70000000 or more (UEFI 2.10, section 7.2). Type 7
 /// is conventional memory, and type 14 and those up to 0x6fffffff are not used.
-fn may_be_given(memory_type: u32) -> bool
+pub fn may_be_given(memory_type: u32) -> bool
     ensures { result ≡ may_be_given memory_type }
 {
     memory_type < 7 || (memory_type >= 8 && memory_type <= 13) || memory_type >= 0x7000_0000
