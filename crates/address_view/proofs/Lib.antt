@@ -6,3 +6,4 @@ pub mod StoreLaws
 pub mod MarkedLemmas
 pub mod RangeLemmas
 pub mod LoopLemmas
+pub mod BaseLemmas

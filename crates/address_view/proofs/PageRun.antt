@@ -1,14 +1,13 @@
 -- When addresses show one page.
-use Rattle.std.proofs.Common.{subst, ◌≡◌, ◌≢◌, ℕ, ◌+◌, ◌*◌, ◌-◌, ◌/◌, ◌%◌, ◌^◌, ◌<◌, ◌≤◌, Bool, true, false, List, refl, sym, ◌∙◌, ap, arith, ◌⊎◌, inl, inr, cond, [], ◌∷◌, zero, suc, not, length}
-use Rattle.std.specs.Prelude.{◌==◌, ◌&&◌, nat_le, nat_lt, if◌then◌else◌, Option, Some, None, Ok, slice_set, slice_get}
-use Rattle.std.proofs.lemmas.Grind.{common_steps}
+use Rattle.std.proofs.Common.{◌≡◌, ℕ, ◌+◌, ◌*◌, ◌-◌, ◌%◌, ◌<◌, ◌≤◌, Bool, true, false, List, refl, ◌∙◌, ap, arith, cond}
+use Rattle.std.specs.Prelude.{Option, Some, None, slice_get}
 use Rattle.std.proofs.lemmas.Bool.Decides.{nat_tests}
 use Rattle.rv_step.specs.declared.bus.Access.{Access}
 use Rattle.address_view.specs.declared.view.Window.{Window}
-use Rattle.address_view.specs.Windows.{Fits, AreWindows, shows, window_at, place_in, see, at_place}
+use Rattle.address_view.specs.Windows.{Fits, AreWindows, shows, window_at, place_in, at_place}
 use Rattle.address_view.specs.Seen.{view_allows, OnePage, may}
 use Rattle.address_view.proofs.ViewLemmas.{is_shown, shown, same_window}
-use Rattle.guest_memory.specs.Pages.{Pages, Whole, rights_at, InPage, holds, page_of}
+use Rattle.guest_memory.specs.Pages.{Pages, Whole, rights_at, holds, page_of}
 use Rattle.guest_memory.specs.declared.rights.Rights.{Rights}
 
 held_by : (b : Bool) (rights : Option Rights) (r : Rights) → cond b rights None ≡ Some r → b ≡ true

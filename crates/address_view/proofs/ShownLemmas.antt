@@ -1,6 +1,6 @@
 -- Where a place is shown.
 use Rattle.std.proofs.Common.{subst, ◌≡◌, ℕ, ◌+◌, ◌-◌, ◌<◌, ◌≤◌, Bool, true, false, List, refl, sym, ◌∙◌, ap, arith, cond, [], ◌∷◌}
-use Rattle.std.specs.Prelude.{◌&&◌, nat_le, nat_lt, Option, Some, None}
+use Rattle.std.specs.Prelude.{Option, Some}
 use Rattle.std.proofs.lemmas.Bool.Decides.{nat_tests}
 use Rattle.address_view.specs.declared.view.Window.{Window}
 use Rattle.address_view.specs.Windows.{Fits, Disjoint, ApartFrom, AreWindows, shows, shows_place, see, window_at, window_of, place_in, address_in, shown_at}

@@ -244,6 +244,7 @@ fn put_all(memory: &mut GuestMemory, view: &View, at: u64, bytes: &[u8])
 }
 
 /// Stores bytes at addresses that allow it, where there are frames for them.
+#[tactic(auto, using(crate::proofs::BaseLemmas::base_of_stored, crate::proofs::BaseLemmas::pages_of_stored, crate::proofs::BaseLemmas::base_besides, crate::proofs::BaseLemmas::pages_besides))]
 fn store_judged(
     memory: &mut GuestMemory,
     view: &View,
@@ -254,6 +255,8 @@ fn store_judged(
     requires few { lacks_seen view.now memory.old at (length bytes.now) ≡ false }
     ensures ok { OnOk result (memory.new ≡ stored view.now memory.old at bytes.now) }
     ensures err { OnErr result ((all_touched view.now memory.old at (length bytes.now) ≡ false) × TouchedBesides memory.old memory.new) }
+    ensures base { memory.new.base ≡ memory.old.base }
+    ensures pages { memory.new.pages ≡ memory.old.pages }
 {
     memory.whole();
     match touch_all(memory, view, at, bytes.len() as u64) {
@@ -299,6 +302,8 @@ fn store_slowly(
     ensures content { StoredIn result memory.old (store_seen view.now memory.old at width value) memory.new }
     ensures err { OnErr result (bytes_of memory.new ≡ bytes_of memory.old) }
     ensures rights { rights_at memory.new ≡ rights_at memory.old }
+    ensures base { memory.new.base ≡ memory.old.base }
+    ensures pages { memory.new.pages ≡ memory.old.pages }
 {
     match refused(memory, view, at, u64::from(width), Access::Store) {
         Some(refused) => Err(BusEnd::Outside(refused)),
@@ -320,6 +325,8 @@ fn store_allowed(
     ensures content { StoredIn result memory.old (store_seen view.now memory.old at width value) memory.new }
     ensures err { OnErr result (bytes_of memory.new ≡ bytes_of memory.old) }
     ensures rights { rights_at memory.new ≡ rights_at memory.old }
+    ensures base { memory.new.base ≡ memory.old.base }
+    ensures pages { memory.new.pages ≡ memory.old.pages }
 {
     if lacks_few(memory, view, at, u64::from(width)) {
         return Err(BusEnd::Frames);
@@ -347,6 +354,8 @@ fn store_page(
     ensures end { StoreEnds result None (lacks_seen view.now memory.old at width) (all_touched view.now memory.old at width) }
     ensures content { StoredIn result memory.old (store_seen view.now memory.old at width value) memory.new }
     ensures err { OnErr result (memory.new ≡ memory.old) }
+    ensures base { memory.new.base ≡ memory.old.base }
+    ensures pages { memory.new.pages ≡ memory.old.pages }
 {
     memory.whole();
     match memory.put_number(place, width, value) {
@@ -371,6 +380,8 @@ pub(crate) fn store_through(
     ensures content { StoredIn result memory.old (store_seen view.now memory.old at width value) memory.new }
     ensures err { OnErr result (bytes_of memory.new ≡ bytes_of memory.old) }
     ensures rights { rights_at memory.new ≡ rights_at memory.old }
+    ensures base { memory.new.base ≡ memory.old.base }
+    ensures pages { memory.new.pages ≡ memory.old.pages }
 {
     match one_page(memory, view, at, width, Access::Store) {
         Some(place) => store_page(memory, view, at, width, value, place),

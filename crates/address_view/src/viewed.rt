@@ -38,9 +38,9 @@ impl<'m, 'v> Bus for Viewed<'m, 'v> {
 
     ghost after = { λ viewed at width value. store_seen viewed.view.now viewed.memory.now at width value };
 
-    ghost same = { λ old new. (new.memory.ghost_name ≡ old.memory.ghost_name) × (new.view.now ≡ old.view.now) };
+    ghost same = { λ old new. (new.memory.ghost_name ≡ old.memory.ghost_name) × (new.view.now ≡ old.view.now) × (new.memory.now.base ≡ old.memory.now.base) × (new.memory.now.pages ≡ old.memory.now.pages) };
 
-    ghost same_self = { λ a. (refl, refl) };
+    ghost same_self = { λ a. (refl, refl, refl, refl) };
 
     fn load(&self, at: u64, width: u8) -> Result<u64, u64> {
         load_through(self.memory, self.view, at, width, Access::Load)

@@ -1,4 +1,4 @@
-use Rattle.std.proofs.Common.{arith, sym, ◌∙◌, ap}
+use Rattle.std.proofs.Common.{arith, sym}
 use Rattle.address_view.proofs.PageRun.{one_page_is}
 use Rattle.address_view.proofs.access.one_page.Goals as goal
 

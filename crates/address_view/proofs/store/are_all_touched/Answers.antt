@@ -1,4 +1,4 @@
-use Rattle.std.proofs.Common.{◌≡◌, ◌+◌, ◌-◌, suc, arith, sym, ap, ◌∙◌}
+use Rattle.std.proofs.Common.{◌≡◌, ◌+◌, ◌-◌, suc, arith, sym, ◌∙◌}
 use Rattle.address_view.proofs.StoreLaws.{first_allows}
 use Rattle.address_view.proofs.LoopLemmas.{allows_next, all_next}
 use Rattle.address_view.proofs.store.are_all_touched.Goals as goal

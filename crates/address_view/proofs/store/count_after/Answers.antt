@@ -1,4 +1,4 @@
-use Rattle.std.proofs.Common.{◌≡◌, ◌+◌, ◌-◌, suc, arith, sym, ap, ◌∙◌}
+use Rattle.std.proofs.Common.{◌≡◌, ◌+◌, ◌-◌, suc, arith, ◌∙◌}
 use Rattle.address_view.proofs.StoreLaws.{first_allows}
 use Rattle.address_view.proofs.MarkedLemmas.{count_length}
 use Rattle.address_view.proofs.LoopLemmas.{allows_next, marks_next}

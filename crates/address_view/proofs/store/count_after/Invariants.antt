@@ -1,4 +1,4 @@
-use Rattle.std.proofs.Common.{◌≡◌, ◌-◌, ◌+◌, ◌≤◌, length}
+use Rattle.std.proofs.Common.{◌≡◌, ◌-◌, length}
 use Rattle.guest_memory.specs.Lists.{count_true}
 use Rattle.address_view.specs.Stored.{AllowsStores, marked}
 use Rattle.address_view.proofs.store.count_after.Given as goal

@@ -1,4 +1,4 @@
-use Rattle.std.proofs.Common.{◌≡◌, ◌+◌, ◌-◌, ◌≤◌, suc, zero, arith, sym, ◌∙◌, refl}
+use Rattle.std.proofs.Common.{◌≡◌, ◌+◌, ◌-◌, ◌≤◌, suc, arith, sym, ◌∙◌, refl}
 use Rattle.std.proofs.Common.{ap, cond, not, Bool, true, false}
 use mir.Val.{bool_byte}
 use Rattle.uh_base.specs.Bytes.{first_refused}

@@ -1,4 +1,4 @@
-use Rattle.std.proofs.Common.{◌≡◌, ◌-◌, ◌+◌, ◌≤◌}
+use Rattle.std.proofs.Common.{◌≡◌, ◌-◌}
 use Rattle.guest_memory.specs.Lists.{count_true}
 use Rattle.address_view.specs.Seen.{behind}
 use Rattle.address_view.specs.Stored.{AllowsStores, marked}

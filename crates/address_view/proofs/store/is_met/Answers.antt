@@ -1,4 +1,4 @@
-use Rattle.std.proofs.Common.{◌≡◌, ◌+◌, ◌-◌, suc, zero, arith, sym, ◌∙◌}
+use Rattle.std.proofs.Common.{◌≡◌, ◌+◌, ◌-◌, suc, arith, sym, ◌∙◌}
 use Rattle.address_view.proofs.StoreLaws.{first_allows}
 use Rattle.address_view.proofs.LoopLemmas.{allows_next, met_next, met_here, met_over}
 use Rattle.address_view.proofs.store.is_met.Goals as goal

@@ -1,4 +1,4 @@
-use Rattle.address_view.proofs.MarkedLemmas.{page_there, page_missing, shows_something}
+use Rattle.address_view.proofs.MarkedLemmas.{page_missing, shows_something}
 use Rattle.std.proofs.Common.{sym}
 use Rattle.address_view.proofs.store.page_seen.Goals as goal
 

@@ -1,3 +1,4 @@
+use Rattle.address_view.proofs.BaseLemmas.{base_of_stored, pages_of_stored}
 use Rattle.std.proofs.Common.{sym, ◌∙◌, ap, subst, length, ◌≡◌, true}
 use Rattle.guest_memory.specs.Pages.{Pages}
 use Rattle.address_view.specs.Stored.{AllowsStores, all_touched, stored}
@@ -18,3 +19,9 @@ pub returns-in-Ok-clause-ok : goal.returns-in-Ok-clause-ok
 returns-in-Ok-clause-ok c =
     c.put_all.ensures ∙ ap (λ (m : Pages). stored c.args.view.now m c.args.at c.args.bytes.now) c.in-Ok.ensures.ok
     ∙ touched_first c.args.view.now c.args.memory.now c.args.at c.args.bytes.now c.whole.ensures.touched_long c.requires.allowed
+
+pub returns-in-Ok-clause-base : goal.returns-in-Ok-clause-base
+returns-in-Ok-clause-base c = base_of_stored _ _ _ _ _ c.put_all.ensures ∙ ap (λ (m : Pages). m.base) c.in-Ok.ensures.ok
+
+pub returns-in-Ok-clause-pages : goal.returns-in-Ok-clause-pages
+returns-in-Ok-clause-pages c = pages_of_stored _ _ _ _ _ c.put_all.ensures ∙ ap (λ (m : Pages). m.pages) c.in-Ok.ensures.ok

@@ -1,5 +1,4 @@
-use Rattle.std.proofs.Common.{refl, ◌∙◌, arith, ◌≤◌}
-use Rattle.std.proofs.lemmas.Bool.Decides.{nat_tests}
+use Rattle.std.proofs.Common.{refl, ◌∙◌}
 use Rattle.rv_step.specs.declared.bus.Access.TheVariants.{Store}
 use Rattle.address_view.proofs.RunLemmas.{fast_content, lacks_is, unsure, some_width}
 use Rattle.address_view.proofs.store.store_page.Goals as goal

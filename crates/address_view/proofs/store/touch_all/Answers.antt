@@ -1,4 +1,4 @@
-use Rattle.std.proofs.Common.{◌≡◌, ◌+◌, ◌-◌, suc, zero, arith, rules}
+use Rattle.std.proofs.Common.{◌≡◌, ◌+◌, ◌-◌, suc, arith}
 use Rattle.address_view.proofs.LoopLemmas.{touching_asks, touching_next, touching_ends, touching_over}
 use Rattle.address_view.proofs.store.touch_all.Goals as goal
 

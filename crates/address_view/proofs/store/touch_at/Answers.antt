@@ -1,6 +1,5 @@
-use Rattle.std.proofs.Common.{◌≡◌, ◌≤◌, arith, ap, ◌∙◌, List, Bool}
+use Rattle.std.proofs.Common.{arith, ap, ◌∙◌, List, Bool}
 use Rattle.guest_memory.specs.Lists.{count_true}
-use Rattle.guest_memory.specs.Pages.{Pages}
 use Rattle.address_view.proofs.LoopLemmas.{one_reserved}
 use Rattle.address_view.proofs.store.touch_at.Goals as goal
 
