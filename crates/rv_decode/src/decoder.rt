@@ -12,12 +12,14 @@ use crate::formats::read;
 use crate::insn::Insn;
 use crate::table::{FROM, Pattern, ROWS, Row, TO};
 
+#[inline(always)]
 fn is_met(pattern: Pattern, word: u32) -> bool
     ensures { result ≡ holds (pattern_of pattern) word }
 {
     word & pattern.0 == pattern.1
 }
 
+#[inline(always)]
 fn is_excluded(pattern: Option<Pattern>, word: u32) -> bool
     ensures { result ≡ not (holds_none (excluded pattern) word) }
 {
@@ -27,6 +29,7 @@ fn is_excluded(pattern: Option<Pattern>, word: u32) -> bool
     }
 }
 
+#[inline(always)]
 fn row_holds(row: &Row, word: u32) -> bool
     ensures { result ≡ holds_row (row_of row.now) word }
 {
@@ -34,6 +37,7 @@ fn row_holds(row: &Row, word: u32) -> bool
 }
 
 /// The slot whose rows can hold of a word: by bits 6 to 2 and 14 to 12, or by bits 1, 0 and 15 to 13.
+#[inline(always)]
 fn slot_of(word: u32) -> usize
     ensures below { result < 280 }
     ensures holds { IsTrue (holds (slot_pattern result) word) }
@@ -46,6 +50,7 @@ fn slot_of(word: u32) -> usize
 }
 
 /// The reading of the first row that holds.
+#[inline(always)]
 fn find(rows: &[Row], word: u32) -> Option<(Insn, u8)>
     ensures first { result ≡ first (map row_of rows.now) word }
     ensures registers { IfSome result (λ found. NamesRegisters found.0) }
@@ -59,6 +64,7 @@ fn find(rows: &[Row], word: u32) -> Option<(Insn, u8)>
 }
 
 /// The reading of the first row of the table that holds, looked for in its slot alone.
+#[inline(always)]
 fn find_in(slot: usize, word: u32) -> Option<(Insn, u8)>
     requires below { slot < 280 }
     requires slot { IsTrue (holds (slot_pattern slot) word) }
@@ -68,7 +74,9 @@ fn find_in(slot: usize, word: u32) -> Option<(Insn, u8)>
     find(&ROWS[FROM[slot] as usize..TO[slot] as usize], word)
 }
 
-/// The instruction at the front of two halves, and how many bytes it has.
+/// The instruction at the front of two halves of 16 bits, and how many bytes it has: 2, where the second half doesn't
+/// count, or 4. None where no row of the table holds.
+#[inline(always)]
 pub fn decode(half0: u16, half1: u16) -> Option<(Insn, u8)>
     ensures exact { result ≡ decoded half0 half1 }
     ensures registers { IfSome result (λ found. NamesRegisters found.0) }

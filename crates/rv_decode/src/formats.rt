@@ -14,6 +14,7 @@ use crate::immediates::{
 use crate::insn::{Insn, Op};
 use crate::table::Format;
 
+#[inline(always)]
 fn insn(op: Op, rd: u8, rs1: u8, rs2: u8, imm: i64) -> Insn
     ensures { result ≡ record { op = op; rd = rd; rs1 = rs1; rs2 = rs2; imm = imm } }
 {
@@ -27,6 +28,7 @@ fn insn(op: Op, rd: u8, rs1: u8, rs2: u8, imm: i64) -> Insn
 }
 
 /// The instruction that a word is in a format.
+#[inline(always)]
 pub(crate) fn read(format: Format, op: Op, word: u32) -> Insn
     ensures reads { result ≡ reads_of format op word }
     ensures registers { NamesRegisters result }

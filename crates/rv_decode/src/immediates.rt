@@ -6,30 +6,35 @@ ghost use Rattle.rv_decode.specs.Immediates.{imm_i, shamt, shamt_word, imm_s, im
 
 use crate::fields::{field_of, sign_extend};
 
+#[inline(always)]
 pub(crate) fn imm_i(word: u32) -> i64
     ensures { result ≡ imm_i word }
 {
     sign_extend(field_of(word, 20, 12), 12)
 }
 
+#[inline(always)]
 pub(crate) fn shamt(word: u32) -> i64
     ensures { result ≡ shamt word }
 {
     i64::from(field_of(word, 20, 6))
 }
 
+#[inline(always)]
 pub(crate) fn shamt_word(word: u32) -> i64
     ensures { result ≡ shamt_word word }
 {
     i64::from(field_of(word, 20, 5))
 }
 
+#[inline(always)]
 pub(crate) fn imm_s(word: u32) -> i64
     ensures { result ≡ imm_s word }
 {
     sign_extend((field_of(word, 25, 7) << 5) + field_of(word, 7, 5), 12)
 }
 
+#[inline(always)]
 pub(crate) fn imm_b(word: u32) -> i64
     ensures { result ≡ imm_b word }
 {
@@ -42,12 +47,14 @@ pub(crate) fn imm_b(word: u32) -> i64
     )
 }
 
+#[inline(always)]
 pub(crate) fn imm_u(word: u32) -> i64
     ensures { result ≡ imm_u word }
 {
     sign_extend(field_of(word, 12, 20) << 12, 32)
 }
 
+#[inline(always)]
 pub(crate) fn imm_j(word: u32) -> i64
     ensures { result ≡ imm_j word }
 {
@@ -60,6 +67,7 @@ pub(crate) fn imm_j(word: u32) -> i64
     )
 }
 
+#[inline(always)]
 pub(crate) fn imm_addi4spn(word: u32) -> i64
     ensures { result ≡ imm_addi4spn word }
 {
@@ -71,6 +79,7 @@ pub(crate) fn imm_addi4spn(word: u32) -> i64
     )
 }
 
+#[inline(always)]
 pub(crate) fn offset_lw(word: u32) -> i64
     ensures { result ≡ offset_lw word }
 {
@@ -79,24 +88,28 @@ pub(crate) fn offset_lw(word: u32) -> i64
     )
 }
 
+#[inline(always)]
 pub(crate) fn offset_ld(word: u32) -> i64
     ensures { result ≡ offset_ld word }
 {
     i64::from((field_of(word, 10, 3) << 3) + (field_of(word, 5, 2) << 6))
 }
 
+#[inline(always)]
 pub(crate) fn imm_ci(word: u32) -> i64
     ensures { result ≡ imm_ci word }
 {
     sign_extend((field_of(word, 12, 1) << 5) + field_of(word, 2, 5), 6)
 }
 
+#[inline(always)]
 pub(crate) fn shamt_ci(word: u32) -> i64
     ensures { result ≡ shamt_ci word }
 {
     i64::from((field_of(word, 12, 1) << 5) + field_of(word, 2, 5))
 }
 
+#[inline(always)]
 pub(crate) fn imm_addi16sp(word: u32) -> i64
     ensures { result ≡ imm_addi16sp word }
 {
@@ -110,6 +123,7 @@ pub(crate) fn imm_addi16sp(word: u32) -> i64
     )
 }
 
+#[inline(always)]
 pub(crate) fn imm_lui(word: u32) -> i64
     ensures { result ≡ imm_lui word }
 {
@@ -119,6 +133,7 @@ pub(crate) fn imm_lui(word: u32) -> i64
     )
 }
 
+#[inline(always)]
 pub(crate) fn offset_j(word: u32) -> i64
     ensures { result ≡ offset_j word }
 {
@@ -135,6 +150,7 @@ pub(crate) fn offset_j(word: u32) -> i64
     )
 }
 
+#[inline(always)]
 pub(crate) fn offset_b(word: u32) -> i64
     ensures { result ≡ offset_b word }
 {
@@ -148,6 +164,7 @@ pub(crate) fn offset_b(word: u32) -> i64
     )
 }
 
+#[inline(always)]
 pub(crate) fn offset_lwsp(word: u32) -> i64
     ensures { result ≡ offset_lwsp word }
 {
@@ -156,6 +173,7 @@ pub(crate) fn offset_lwsp(word: u32) -> i64
     )
 }
 
+#[inline(always)]
 pub(crate) fn offset_ldsp(word: u32) -> i64
     ensures { result ≡ offset_ldsp word }
 {
@@ -164,12 +182,14 @@ pub(crate) fn offset_ldsp(word: u32) -> i64
     )
 }
 
+#[inline(always)]
 pub(crate) fn offset_swsp(word: u32) -> i64
     ensures { result ≡ offset_swsp word }
 {
     i64::from((field_of(word, 9, 4) << 2) + (field_of(word, 7, 2) << 6))
 }
 
+#[inline(always)]
 pub(crate) fn offset_sdsp(word: u32) -> i64
     ensures { result ≡ offset_sdsp word }
 {

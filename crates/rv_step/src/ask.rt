@@ -12,7 +12,7 @@ use crate::ends::Trap;
 use crate::values::{div, divu, even, extended, low, mulh, mulhsu, rem, remu};
 use rv_decode::{Insn, Op};
 
-/// What an instruction asks for.
+/// What an instruction asks for. Addresses and values are numbers of 64 bits, widths are in bytes.
 #[derive(Clone, Copy, Debug, PartialEq, Eq, Drop)]
 pub enum Ask {
     /// A register gets a value.
@@ -42,12 +42,14 @@ pub enum Ask {
     Stop(Trap),
 }
 
+#[inline(always)]
 fn set(rd: u8, value: u64) -> Ask
     ensures { result ≡ Set rd value }
 {
     Ask::Set { rd, value }
 }
 
+#[inline(always)]
 fn load(rd: u8, at: u64, width: u8, sign: bool) -> Ask
     ensures { result ≡ Load rd at width sign }
 {
@@ -59,12 +61,14 @@ fn load(rd: u8, at: u64, width: u8, sign: bool) -> Ask
     }
 }
 
+#[inline(always)]
 fn store(at: u64, width: u8, value: u64) -> Ask
     ensures { result ≡ Store at width value }
 {
     Ask::Store { at, width, value }
 }
 
+#[inline(always)]
 fn branch(taken: bool, next: u64, target: u64) -> Ask
     ensures { result ≡ branch taken next target }
 {
@@ -74,6 +78,7 @@ fn branch(taken: bool, next: u64, target: u64) -> Ask
     }
 }
 
+#[inline(always)]
 fn ask_as(op: Op, rd: u8, a: u64, b: u64, i: u64, pc: u64, next: u64) -> Ask
     requires { rd < 32 }
     ensures asked { result ≡ asks_as op rd a b i pc next }
@@ -156,8 +161,9 @@ fn ask_as(op: Op, rd: u8, a: u64, b: u64, i: u64, pc: u64, next: u64) -> Ask
     }
 }
 
-/// What an instruction of so many bytes asks for.
+/// What an instruction of so many bytes at `pc` asks for, with these registers.
 #[tactic(auto, unfolding(crate::specs::Asks::asks))]
+#[inline(always)]
 pub fn asked(insn: Insn, len: u8, x: &[u64; 32], pc: u64) -> Ask
     requires { NamesRegisters insn }
     ensures asked { result ≡ asks insn len x.now pc }

@@ -6,7 +6,7 @@ ghost use Rattle.rv_step.specs.declared.bus.Access.{Access};
 ghost use Rattle.uh_base.specs.Bytes.{is_width, first_refused, loaded, with_number};
 ghost use Rattle.rv_step.specs.Stores.{StoreEnds, StoredIn};
 
-/// What an access is for.
+/// What an access is for: it asks for the right to read, to write or to execute.
 #[derive(Clone, Copy, Debug, PartialEq, Eq, Drop)]
 pub enum Access {
     Load,
@@ -17,12 +17,17 @@ pub enum Access {
 /// Why nothing was stored.
 #[derive(Clone, Copy, Debug, PartialEq, Eq, Drop)]
 pub enum BusEnd {
+    /// The first address that may not be written.
     Outside(u64),
+    /// The store takes more frames than there are.
     Frames,
+    /// No memory for the store.
     Memory,
 }
 
-/// Bytes at addresses, and rights to them.
+/// What a hart reads and writes through: a byte at each address, modulo 2^64, and rights to it. An access has 1, 2, 4 or 8
+/// bytes, the least first, at any address; each of its bytes needs the right. (RISC-V unprivileged manual, version
+/// 20191213, 1.4 and 2.6)
 pub trait Bus {
     /// The byte at each address.
     ghost bytes: { Self → ℕ → ℕ };
@@ -33,13 +38,13 @@ pub trait Bus {
     /// Which stores take no memory.
     ghost takes_no_memory: { Self → ℕ → ℕ → Bool };
 
-    /// What stores change.
+    /// What stores change, as a whole.
     type Content;
 
     ghost content: { Self → Self.Content };
     /// The content after a store of a number of so many bytes at an address.
     ghost after: { Self → ℕ → ℕ → ℕ → Self.Content };
-    /// What no call changes.
+    /// What no call changes, as the reference of a bus that borrows its memory.
     ghost same: { Self → Self → Type 0 };
 
     ghost same_self: { (a : Self) → same a a };
@@ -57,7 +62,8 @@ pub trait Bus {
         ensures same { same self.old self.new }
         ensures content { StoredIn result (content self.old) (after self.old at width value) (content self.new) }
         ensures rights { allows self.new ≡ allows self.old }
-        ensures end { StoreEnds result (first_refused (allows self.old Access.Store) at width) (lacks_frames self.old at width) (takes_no_memory self.old at width) };
+        ensures end { StoreEnds result (first_refused (allows self.old Access.Store) at width)
+            (lacks_frames self.old at width) (takes_no_memory self.old at width) };
 
     /// The half of an instruction at an address, or the first address that can't be fetched from.
     fn fetch(&self, at: u64) -> Result<u16, u64>

@@ -13,6 +13,7 @@ use crate::regs::Regs;
 use rv_decode::{Insn, decode};
 
 /// The instruction of two halves.
+#[inline(always)]
 fn insn_of(half0: u16, half1: u16) -> Result<(Insn, u8), Trap>
     ensures found { result ≡ or_illegal (decoded half0 half1) }
     ensures registers { IfOk result (λ found. NamesRegisters found.0) }
@@ -25,6 +26,7 @@ fn insn_of(half0: u16, half1: u16) -> Result<(Insn, u8), Trap>
 
 /// The instruction at an address, or why there is none.
 #[tactic(auto, unfolding(crate::specs::Exec::fetched))]
+#[inline(always)]
 fn fetch_insn<B: Bus>(bus: &B, pc: u64) -> Result<(Insn, u8), Trap>
     ensures found { result ≡ fetched (B.bytes bus.now) (B.allows bus.now) pc }
     ensures registers { IfOk result (λ found. NamesRegisters found.0) }
@@ -49,12 +51,19 @@ fn fetch_insn<B: Bus>(bus: &B, pc: u64) -> Result<(Insn, u8), Trap>
     }
 }
 
-/// Carries out the instruction at the program counter. All but `Next` change nothing.
+/// Carries out the instruction at the program counter. All answers but `Next` leave registers and memory as before.
+/// The second half of an instruction is fetched only where the low two bits of the first are 11. (RISC-V unprivileged
+/// manual, version 20191213, 1.5)
 #[tactic(auto, unfolding(crate::specs::Exec::step_of))]
+#[inline(always)]
 pub fn step<B: Bus>(regs: &mut Regs, bus: &mut B) -> StepEnd
-    ensures step { StepGives (B.lacks_frames bus.old) (B.takes_no_memory bus.old) result (step_of (B.allows bus.old) (state_of regs.old (B.bytes bus.old))) (state_of regs.old (B.bytes bus.old)) (state_of regs.new (B.bytes bus.new)) }
+    ensures step { StepGives (B.lacks_frames bus.old) (B.takes_no_memory bus.old) result
+        (step_of (B.allows bus.old) (state_of regs.old (B.bytes bus.old)))
+        (state_of regs.old (B.bytes bus.old)) (state_of regs.new (B.bytes bus.new)) }
     ensures same { B.same bus.old bus.new }
-    ensures content { StepKeeps (B.after bus.old) result (step_of (B.allows bus.old) (state_of regs.old (B.bytes bus.old))) (B.content bus.old) (B.content bus.new) }
+    ensures content { StepKeeps (B.after bus.old) result
+        (step_of (B.allows bus.old) (state_of regs.old (B.bytes bus.old)))
+        (B.content bus.old) (B.content bus.new) }
     ensures rights { B.allows bus.new ≡ B.allows bus.old }
 {
     match fetch_insn(bus, regs.pc) {

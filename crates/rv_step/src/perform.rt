@@ -14,6 +14,7 @@ use crate::regs::Regs;
 use crate::values::widened;
 use rv_decode::Insn;
 
+#[inline(always)]
 fn write(regs: &mut Regs, rd: u8, value: u64)
     requires { rd < 32 }
     ensures x { regs.new.x ≡ written regs.old.x rd value }
@@ -25,11 +26,16 @@ fn write(regs: &mut Regs, rd: u8, value: u64)
 }
 
 /// Does what is asked. All but `Next` change nothing.
+#[inline(always)]
 fn perform<B: Bus>(ask: Ask, next: u64, regs: &mut Regs, bus: &mut B) -> StepEnd
     requires { IsFit ask }
-    ensures step { StepGives (B.lacks_frames bus.old) (B.takes_no_memory bus.old) result (done ask next (B.allows bus.old) (state_of regs.old (B.bytes bus.old))) (state_of regs.old (B.bytes bus.old)) (state_of regs.new (B.bytes bus.new)) }
+    ensures step { StepGives (B.lacks_frames bus.old) (B.takes_no_memory bus.old) result
+        (done ask next (B.allows bus.old) (state_of regs.old (B.bytes bus.old)))
+        (state_of regs.old (B.bytes bus.old)) (state_of regs.new (B.bytes bus.new)) }
     ensures same { B.same bus.old bus.new }
-    ensures content { StepKeeps (B.after bus.old) result (done ask next (B.allows bus.old) (state_of regs.old (B.bytes bus.old))) (B.content bus.old) (B.content bus.new) }
+    ensures content { StepKeeps (B.after bus.old) result
+        (done ask next (B.allows bus.old) (state_of regs.old (B.bytes bus.old)))
+        (B.content bus.old) (B.content bus.new) }
     ensures rights { B.allows bus.new ≡ B.allows bus.old }
 {
     match ask {
@@ -77,11 +83,16 @@ fn perform<B: Bus>(ask: Ask, next: u64, regs: &mut Regs, bus: &mut B) -> StepEnd
 
 /// Carries out an instruction. All but `Next` change nothing.
 #[tactic(auto, unfolding(crate::specs::Exec::execute))]
+#[inline(always)]
 pub(crate) fn execute<B: Bus>(insn: Insn, len: u8, regs: &mut Regs, bus: &mut B) -> StepEnd
     requires { NamesRegisters insn }
-    ensures step { StepGives (B.lacks_frames bus.old) (B.takes_no_memory bus.old) result (execute insn len (B.allows bus.old) (state_of regs.old (B.bytes bus.old))) (state_of regs.old (B.bytes bus.old)) (state_of regs.new (B.bytes bus.new)) }
+    ensures step { StepGives (B.lacks_frames bus.old) (B.takes_no_memory bus.old) result
+        (execute insn len (B.allows bus.old) (state_of regs.old (B.bytes bus.old)))
+        (state_of regs.old (B.bytes bus.old)) (state_of regs.new (B.bytes bus.new)) }
     ensures same { B.same bus.old bus.new }
-    ensures content { StepKeeps (B.after bus.old) result (execute insn len (B.allows bus.old) (state_of regs.old (B.bytes bus.old))) (B.content bus.old) (B.content bus.new) }
+    ensures content { StepKeeps (B.after bus.old) result
+        (execute insn len (B.allows bus.old) (state_of regs.old (B.bytes bus.old)))
+        (B.content bus.old) (B.content bus.new) }
     ensures rights { B.allows bus.new ≡ B.allows bus.old }
 {
     let next = regs.pc.wrapping_add(u64::from(len));

@@ -6,6 +6,7 @@ ghost use Rattle.rv_step.specs.Values.{extended, high, signed, quotient, remaind
 ghost use Rattle.rv_step.specs.Asks.{even};
 
 /// The low 32 bits.
+#[inline(always)]
 pub(crate) fn low(n: u64) -> u32
     ensures { result ≡ n % 2 ^ 32 }
 {
@@ -13,6 +14,7 @@ pub(crate) fn low(n: u64) -> u32
 }
 
 /// Sign-extended from the low 32 bits.
+#[inline(always)]
 pub(crate) fn extended(n: u64) -> u64
     ensures { result ≡ extended n }
 {
@@ -20,6 +22,7 @@ pub(crate) fn extended(n: u64) -> u64
 }
 
 /// Bit 0 cleared.
+#[inline(always)]
 pub(crate) fn even(n: u64) -> u64
     ensures { result ≡ even n }
 {
@@ -84,6 +87,7 @@ pub(crate) fn rem(a: u64, b: u64) -> u64
 
 /// A number of so many bytes, sign-extended.
 #[tactic(auto, unfolding(crate::specs::Values::widened))]
+#[inline(always)]
 pub(crate) fn widened(width: u8, n: u64) -> u64
     ensures { result ≡ widened width n }
 {
