@@ -7,6 +7,7 @@ mod fields;
 mod formats;
 mod immediates;
 mod insn;
+mod laws;
 mod ranges;
 mod table;
 #[cfg(test)]
@@ -16,3 +17,4 @@ mod text;
 pub use decoder::{decode, one_row_holds};
 pub use encoder::{encode, fits_exactly};
 pub use insn::{Insn, Op};
+pub use laws::fields_decide;
