@@ -1,0 +1,138 @@
+-- The script that a document says, or the first thing that is wrong with it.
+use Rattle.std.specs.Prelude.{◌+◌, ◌==◌, ℕ, List, [], ◌∷◌, ◌++◌, length, codes, Bool, Option, Some, None, Result, Ok, Err, unwrap_or, if◌then◌else◌}
+use Rattle.std.specs.List.{list_any}
+use Rattle.std.specs.Str.{bytes_eq, is_utf8}
+use Rattle.toml.specs.Data.{Data, Items, no_items, item, Members, as_table}
+use Rattle.toml.specs.Parse.{parse_document}
+use Rattle.uh_base.specs.Names.{is_name}
+use Rattle.host_script.specs.Faults.{◌>>=◌, Place, placed}
+use Rattle.host_script.specs.Fields.{only_keys, text_field, integer_field, tables_field, items_len, counted, needed}
+use Rattle.host_script.specs.declared.fault.ScriptKind.{ScriptKind}
+use Rattle.host_script.specs.declared.fault.ScriptKind.TheVariants as kinds
+use Rattle.host_script.specs.declared.script.Origin.{Origin}
+use Rattle.host_script.specs.declared.script.Origin.TheVariants.{File}
+use Rattle.host_script.specs.declared.script.ImageSpec.{ImageSpec}
+use Rattle.host_script.specs.declared.script.Step.{Step}
+use Rattle.host_script.specs.declared.script.Step.TheVariants.{Load, Start}
+use Rattle.host_script.specs.declared.script.Script.{Script}
+
+-- an image has the name
+abbrev pub has_image : List ImageSpec → List ℕ → Bool
+has_image images name = list_any (λ image. bytes_eq image.name name) images
+
+-- an item of a list of tables
+abbrev pub table_of : Option Members → Result Members ScriptKind
+table_of None = Err kinds.Shape
+table_of (Some members) = Ok members
+
+-- ---- the top table
+
+pub record Top : Type 0 where
+  pub images : Items
+  pub steps : Items
+
+abbrev pub not_empty : Items → Result Items ScriptKind
+not_empty items = if items_len items == 0 then Err kinds.Missing else Ok items
+
+unfoldable pub steps_field : Members → Result Items ScriptKind
+steps_field top = (tables_field (codes "step") top >>= not_empty) >>= counted 4096
+
+unfoldable pub top_of : Members → Result Top ScriptKind
+top_of top = do
+  _ ← only_keys (codes "image" ∷ codes "step" ∷ []) top
+  images ← tables_field (codes "image") top >>= counted 16
+  steps ← steps_field top
+  Ok (record { images = images; steps = steps })
+
+-- ---- images, each with those before it
+
+abbrev pub new_name : List ImageSpec → List ℕ → Result (List ℕ) ScriptKind
+new_name before name = if is_name name then (if has_image before name then Err kinds.Name else Ok name) else Err kinds.Value
+
+unfoldable pub origin_of : Members → Result Origin ScriptKind
+origin_of image = needed (text_field (codes "file") image) >>= λ file. Ok (File file)
+
+unfoldable pub image_of : List ImageSpec → Members → Result ImageSpec ScriptKind
+image_of before image = do
+  _ ← only_keys (codes "name" ∷ codes "file" ∷ []) image
+  name ← needed (text_field (codes "name") image) >>= new_name before
+  origin ← origin_of image
+  Ok (record { name = name; origin = origin })
+
+unfoldable pub image_at : List ImageSpec → Data → Result ImageSpec ScriptKind
+image_at before content = table_of (as_table content) >>= image_of before
+
+unfoldable pub images_of : List ImageSpec → Items → Result (List ImageSpec) ScriptKind
+images_of before no_items = Ok before
+images_of before (item content items) = image_at before content >>= λ image. images_of (before ++ image ∷ []) items
+
+-- ---- steps; `do` is judged first
+
+abbrev pub known_name : List ImageSpec → List ℕ → Result (List ℕ) ScriptKind
+known_name images name = if is_name name then (if has_image images name then Ok name else Err kinds.Name) else Err kinds.Value
+
+-- the image of a step
+unfoldable pub step_image : List ImageSpec → Members → Result (List ℕ) ScriptKind
+step_image images step = needed (text_field (codes "image") step) >>= known_name images
+
+-- how many steps an image may run
+abbrev pub or_million : Option ℕ → Result ℕ ScriptKind
+or_million bound = Ok (unwrap_or bound 1000000)
+
+unfoldable pub bound_of : Members → Result ℕ ScriptKind
+bound_of step = integer_field (codes "bound") 1 50000000 step >>= or_million
+
+unfoldable pub load_of : List ImageSpec → Members → Result Step ScriptKind
+load_of images step = do
+  _ ← only_keys (codes "do" ∷ codes "image" ∷ []) step
+  image ← step_image images step
+  Ok (Load image)
+
+unfoldable pub start_of : List ImageSpec → Members → Result Step ScriptKind
+start_of images step = do
+  _ ← only_keys (codes "do" ∷ codes "image" ∷ codes "bound" ∷ []) step
+  image ← step_image images step
+  bound ← bound_of step
+  Ok (Start image bound)
+
+unfoldable pub step_by : List ℕ → List ImageSpec → Members → Result Step ScriptKind
+step_by word images step =
+    if bytes_eq word (codes "load") then load_of images step
+    else (if bytes_eq word (codes "start") then start_of images step else Err kinds.Value)
+
+unfoldable pub step_of : List ImageSpec → Members → Result Step ScriptKind
+step_of images step = needed (text_field (codes "do") step) >>= λ word. step_by word images step
+
+unfoldable pub step_at : List ImageSpec → Data → Result Step ScriptKind
+step_at images content = table_of (as_table content) >>= step_of images
+
+-- the steps behind those before, numbered from 1
+unfoldable pub steps_of : List ImageSpec → List Step → Items → Result (List Step) Place
+steps_of images before no_items = Ok before
+steps_of images before (item content items) = placed (length before + 1) (step_at images content) (λ step. steps_of images (before ++ step ∷ []) items)
+
+-- ---- the whole
+
+-- a script, without where its lists lie in memory
+pub record Plain : Type 0 where
+  pub image : List ImageSpec
+  pub step : List Step
+
+abbrev pub plain : Script → Plain
+plain script = record { image = script.image.items; step = script.step.items }
+
+abbrev pub with_steps : List ImageSpec → Result (List Step) Place → Result Plain Place
+with_steps images (Ok steps) = Ok (record { image = images; step = steps })
+with_steps images (Err place) = Err place
+
+-- the top table, the images and the steps are step 0, step 0, and each its own
+unfoldable pub script_of : Members → Result Plain Place
+script_of document = placed 0 (top_of document) (λ top. placed 0 (images_of [] top.images) (λ images. with_steps images (steps_of images [] top.steps)))
+
+abbrev pub of_document : Option Members → Result Plain Place
+of_document None = Err (0, kinds.Text)
+of_document (Some document) = script_of document
+
+-- the script that the bytes of a document say
+unfoldable pub script_in : List ℕ → Result Plain Place
+script_in bytes = if is_utf8 bytes then of_document (parse_document bytes) else Err (0, kinds.Text)

@@ -1,0 +1,15 @@
+//! The script of a run: what a TOML document says, or the first thing that is wrong with it.
+#![tactic(auto)]
+
+mod fault;
+mod fields;
+mod images;
+mod reading;
+mod script;
+mod steps;
+#[cfg(test)]
+mod tests;
+
+pub use fault::{ScriptFault, ScriptKind};
+pub use reading::read_script;
+pub use script::{ImageSpec, Origin, Script, Step};

@@ -1,0 +1,94 @@
+//! Reading a script.
+ghost use Rattle.std.specs.Prelude.{◌≡◌, ◌≤◌, length, IfOk};
+ghost use Rattle.toml.specs.View.{table_view, items_view};
+ghost use Rattle.host_script.specs.Faults.{Reads};
+ghost use Rattle.host_script.specs.Fields.{seen_items};
+ghost use Rattle.host_script.specs.Script.{not_empty, steps_field, top_of, plain, script_of, script_in};
+ghost use Rattle.host_script.specs.Seen.{top_seen};
+
+use crate::fault::{ScriptFault, ScriptKind};
+use crate::fields;
+use crate::images::images_of;
+use crate::script::Script;
+use crate::steps::{fault_at, steps_of};
+use std::alloc::Global;
+use toml::{Table, Value};
+
+/// The keys of the top table.
+#[derive(Drop)]
+struct Top<'a> {
+    images: &'a [Value],
+    steps: &'a [Value],
+}
+
+/// Values that have to be there.
+#[tactic(auto, using(crate::proofs::Views::length_as_items))]
+fn not_empty(values: &[Value]) -> Result<&[Value], ScriptKind>
+    ensures { seen_items result ≡ not_empty (items_view values.now) }
+{
+    if values.is_empty() {
+        Err(ScriptKind::Missing)
+    } else {
+        Ok(values)
+    }
+}
+
+#[tactic(auto, unfolding(crate::specs::Script::steps_field))]
+fn steps_field(top: &Table) -> Result<&[Value], ScriptKind>
+    ensures seen { seen_items result ≡ steps_field (table_view top.now) }
+    ensures few { IfOk result (λ steps. length steps.now ≤ 4096) }
+{
+    fields::counted(not_empty(fields::tables_field(top, "step")?)?, 4096)
+}
+
+#[tactic(auto, unfolding(crate::specs::Script::top_of))]
+fn top_of(top: &Table) -> Result<Top<'_>, ScriptKind>
+    ensures seen { top_seen result ≡ top_of (table_view top.now) }
+    ensures few { IfOk result (λ top. length top.steps.now ≤ 4096) }
+{
+    fields::only_keys(top, &["image", "step"])?;
+    let images = fields::counted(fields::tables_field(top, "image")?, 16)?;
+    let steps = steps_field(top)?;
+    Ok(Top { images, steps })
+}
+
+#[tactic(auto, unfolding(crate::specs::Script::script_of))]
+fn script_of(alloc: Global, document: &Table) -> Result<Script, ScriptFault>
+    ensures { Reads plain result (script_of (table_view document.now)) }
+{
+    let top = match top_of(document) {
+        Ok(top) => top,
+        Err(kind) => return Err(ScriptFault::At { step: 0, kind }),
+    };
+    let image = match images_of(alloc, top.images) {
+        Ok(image) => image,
+        Err(fault) => return Err(fault_at(0, fault)),
+    };
+    match steps_of(alloc, image.as_slice(), top.steps) {
+        Ok(step) => Ok(Script { image, step }),
+        Err(fault) => Err(fault),
+    }
+}
+
+/// Reads a script: the script that the bytes say, or the first fault. `Text` comes exactly where they are no TOML
+/// document, at step 0. Then the top table and the images are judged, both step 0, and each step by its number from
+/// 1. In each table an unknown key comes first, then its known keys in the order of the reference in docs/script.md;
+/// in a step `do` comes before all other keys.
+#[tactic(auto, unfolding(crate::specs::Script::script_in))]
+pub fn read_script(alloc: Global, bytes: &[u8]) -> Result<Script, ScriptFault>
+    ensures { Reads plain result (script_in bytes.now) }
+{
+    match toml::table_from_slice(alloc, bytes) {
+        Ok(table) => script_of(alloc, &table),
+        Err(error) => {
+            if error.is_memory() {
+                Err(ScriptFault::Memory)
+            } else {
+                Err(ScriptFault::At {
+                    step: 0,
+                    kind: ScriptKind::Text,
+                })
+            }
+        }
+    }
+}

@@ -1,0 +1,33 @@
+//! What a script holds.
+use uh_base::Text;
+
+/// Where the bytes of an image come from.
+#[derive(Drop)]
+pub enum Origin {
+    /// A PE file of this name.
+    File(Text),
+}
+
+/// An image that a script names.
+#[derive(Drop)]
+pub struct ImageSpec {
+    /// 1 to 32 of `a` to `z`, `0` to `9` and `_`; no two images have the same.
+    pub name: Text,
+    pub origin: Origin,
+}
+
+/// One step of a script. The image of a step is one that the script names.
+#[derive(Drop)]
+pub enum Step {
+    /// Loads the image.
+    Load { image: Text },
+    /// Runs the image that was loaded last under the name, for at most `bound` steps, 1 to 50,000,000.
+    Start { image: Text, bound: u64 },
+}
+
+/// A script: at most 16 images, and 1 to 4,096 steps.
+#[derive(Drop)]
+pub struct Script {
+    pub image: Vec<ImageSpec>,
+    pub step: Vec<Step>,
+}

@@ -1,0 +1,272 @@
+//! Scripts by hand from the rules: each with its fault, or none.
+use crate::{Origin, ScriptFault, ScriptKind, Step, fields, read_script};
+use std::alloc::Global;
+use std::process::Abort;
+use std::test::Fail;
+
+/// A script's first lines: one image.
+const IMAGE: &str = "[[image]]\nname = \"app\"\nfile = \"app.efi\"\n";
+
+/// Reads each script behind a head, and compares the fault.
+fn compare(
+    rt: &impl Abort,
+    alloc: Global,
+    head: &str,
+    rows: &[(&str, u32, ScriptKind)],
+) -> Result<(), Fail> {
+    for (text, step, kind) in rows {
+        let script = format!(in alloc; "{head}{text}")?;
+        let fault = read_script(alloc, script.as_bytes()).err();
+        let wanted = Some(ScriptFault::At {
+            step: *step,
+            kind: *kind,
+        });
+        assert!(rt; fault == wanted, "{script}: {fault:?}");
+    }
+    Ok(())
+}
+
+#[test]
+fn faults_of_the_document(rt: HostRuntime) -> Result<(), Fail> {
+    compare(
+        &rt,
+        rt.alloc(),
+        "",
+        &[
+            ("", 0, ScriptKind::Missing),
+            ("# a comment alone\n", 0, ScriptKind::Missing),
+            ("[[step", 0, ScriptKind::Text),
+            ("step = 1\nstep = 2\n", 0, ScriptKind::Text),
+            ("step = 9223372036854775808\n", 0, ScriptKind::Text),
+            ("steps = 1\n", 0, ScriptKind::Key),
+            ("\"\" = 1\n", 0, ScriptKind::Key),
+            (
+                "trace = true\n[[step]]\ndo = \"load\"\n",
+                0,
+                ScriptKind::Key,
+            ),
+            ("image = 3\n", 0, ScriptKind::Shape),
+            ("image = 2024-01-01\n", 0, ScriptKind::Shape),
+            ("image = [1]\n", 0, ScriptKind::Shape),
+            ("image = [{}, 1]\nstep = 3\n", 0, ScriptKind::Shape),
+            (
+                "[image]\nname = \"a\"\nfile = \"f\"\n",
+                0,
+                ScriptKind::Shape,
+            ),
+            ("image = 3\nother = 1\n", 0, ScriptKind::Key),
+            ("step = []\n", 0, ScriptKind::Missing),
+            ("step = 3\n", 0, ScriptKind::Shape),
+            ("step = [\"load\"]\n", 0, ScriptKind::Shape),
+            ("[step]\ndo = \"load\"\n", 0, ScriptKind::Shape),
+            (
+                "image = [{},{},{},{},{},{},{},{},{},{},{},{},{},{},{},{},{}]\n",
+                0,
+                ScriptKind::Count,
+            ),
+            (
+                "image = [{},{},{},{},{},{},{},{},{},{},{},{},{},{},{},{},1]\n",
+                0,
+                ScriptKind::Shape,
+            ),
+        ],
+    )?;
+    let fault = read_script(rt.alloc(), b"\xff").err();
+    let wanted = Some(ScriptFault::At {
+        step: 0,
+        kind: ScriptKind::Text,
+    });
+    assert!(rt; fault == wanted);
+    Ok(())
+}
+
+#[test]
+fn faults_of_images(rt: HostRuntime) -> Result<(), Fail> {
+    compare(
+        &rt,
+        rt.alloc(),
+        "step = [{ do = 1 }]\n",
+        &[
+            ("[[image]]\n", 0, ScriptKind::Missing),
+            ("[[image]]\nfile = \"f\"\n", 0, ScriptKind::Missing),
+            ("[[image]]\nname = \"a\"\n", 0, ScriptKind::Missing),
+            (
+                "[[image]]\nname = \"a\"\nfile = \"f\"\npath = 1\n",
+                0,
+                ScriptKind::Key,
+            ),
+            ("[[image]]\npath = 1\n", 0, ScriptKind::Key),
+            ("[[image]]\nname = 1\nfile = 2\n", 0, ScriptKind::Shape),
+            ("[[image]]\nname = \"\"\nfile = 2\n", 0, ScriptKind::Value),
+            (
+                "[[image]]\nname = \"App\"\nfile = \"f\"\n",
+                0,
+                ScriptKind::Value,
+            ),
+            (
+                "[[image]]\nname = \"abcdefghijklmnopqrstuvwxyz0123456\"\nfile = \"f\"\n",
+                0,
+                ScriptKind::Value,
+            ),
+            (
+                "[[image]]\nname = \"a\"\nfile = [\"f\"]\n",
+                0,
+                ScriptKind::Shape,
+            ),
+            (
+                "[[image]]\nname = \"a\"\nfile = \"f\"\n[[image]]\nname = \"a\"\nfile = 1\n",
+                0,
+                ScriptKind::Name,
+            ),
+        ],
+    )
+}
+
+#[test]
+fn faults_of_steps(rt: HostRuntime) -> Result<(), Fail> {
+    compare(
+        &rt,
+        rt.alloc(),
+        IMAGE,
+        &[
+            ("[[step]]\n", 1, ScriptKind::Missing),
+            (
+                "[[step]]\nimage = \"app\"\nother = 1\n",
+                1,
+                ScriptKind::Missing,
+            ),
+            ("[[step]]\ndo = 1\nother = 1\n", 1, ScriptKind::Shape),
+            ("[[step]]\ndo = \"Load\"\nother = 1\n", 1, ScriptKind::Value),
+            ("[[step]]\ndo = \"peek\"\n", 1, ScriptKind::Value),
+            (
+                "[[step]]\ndo = \"load\"\nimage = \"app\"\nbound = 5\n",
+                1,
+                ScriptKind::Key,
+            ),
+            ("[[step]]\ndo = \"load\"\n", 1, ScriptKind::Missing),
+            ("[[step]]\ndo = \"load\"\nimage = 3\n", 1, ScriptKind::Shape),
+            (
+                "[[step]]\ndo = \"load\"\nimage = 2024-01-01\n",
+                1,
+                ScriptKind::Shape,
+            ),
+            (
+                "[[step]]\ndo = \"load\"\nimage = \"a-b\"\n",
+                1,
+                ScriptKind::Value,
+            ),
+            (
+                "[[step]]\ndo = \"load\"\nimage = \"drv\"\n",
+                1,
+                ScriptKind::Name,
+            ),
+            (
+                "[[step]]\ndo = \"load\"\nimage = \"app\"\n[[step]]\ndo = \"start\"\nimage = \"b\"\nbound = 0\n",
+                2,
+                ScriptKind::Name,
+            ),
+            (
+                "[[step]]\ndo = \"start\"\nimage = \"app\"\nbound = 0\n",
+                1,
+                ScriptKind::Value,
+            ),
+            (
+                "[[step]]\ndo = \"start\"\nimage = \"app\"\nbound = -1\n",
+                1,
+                ScriptKind::Value,
+            ),
+            (
+                "[[step]]\ndo = \"start\"\nimage = \"app\"\nbound = 50000001\n",
+                1,
+                ScriptKind::Value,
+            ),
+            (
+                "[[step]]\ndo = \"start\"\nimage = \"app\"\nbound = \"5\"\n",
+                1,
+                ScriptKind::Shape,
+            ),
+            (
+                "[[step]]\ndo = \"start\"\nimage = \"app\"\nbound = 1.5\n",
+                1,
+                ScriptKind::Shape,
+            ),
+            (
+                "[[step]]\ndo = \"start\"\nimage = \"app\"\nbound = true\n",
+                1,
+                ScriptKind::Shape,
+            ),
+            (
+                "[[step]]\ndo = \"start\"\nimage = \"app\"\nbound = 5\nsteps = 5\n",
+                1,
+                ScriptKind::Key,
+            ),
+            (
+                "[[step]]\ndo = \"start\"\nimage = \"app\"\n[[step]]\ndo = \"load\"\nimage = \"app\"\n[[step]]\ndo = 1\n",
+                3,
+                ScriptKind::Shape,
+            ),
+        ],
+    )
+}
+
+#[test]
+fn steps_are_at_most_4096(rt: HostRuntime) -> Result<(), Fail> {
+    let alloc = rt.alloc();
+    let mut script = String::from_str(alloc, "image = [{ name = \"a\", file = \"\" }]\nstep = [")?;
+    for _ in 0..4096 {
+        script.push_str("{do=\"load\",image=\"a\"},")?;
+    }
+    let whole = format!(in alloc; "{}]", script.as_str())?;
+    let read = read_script(alloc, whole.as_bytes())
+        .ok()
+        .ok_or("4096 steps")?;
+    assert!(rt; read.step.len() == 4096);
+    script.push_str("{}]")?;
+    let fault = read_script(alloc, script.as_bytes()).err();
+    let wanted = Some(ScriptFault::At {
+        step: 0,
+        kind: ScriptKind::Count,
+    });
+    assert!(rt; fault == wanted, "{fault:?}");
+    Ok(())
+}
+
+#[test]
+fn a_script(rt: HostRuntime) -> Result<(), Fail> {
+    let alloc = rt.alloc();
+    let text =
+        "# two images\n[[image]]\nname = \"app\"\nfile = \"app.efi\"\n[[image]]\nfile = \"d/drv.efi\"\nname = \"drv_2\"\n[[step]]\nimage = \"drv_2\"\ndo = \"load\"\n[[step]]\ndo = \"start\"\nimage = \"drv_2\"\n[[step]]\ndo = \"start\"\nimage = \"app\"\nbound = 50000000\n";
+    let script = read_script(alloc, text.as_bytes()).ok().ok_or("a script")?;
+    assert!(rt; script.image.len() == 2);
+    assert!(rt; script.image[0].name.as_str() == "app");
+    let Origin::File(file) = &script.image[1].origin;
+    assert!(rt; file.as_str() == "d/drv.efi");
+    assert!(rt; script.step.len() == 3);
+    assert!(rt; matches!(&script.step[0], Step::Load { image } if image.as_str() == "drv_2"));
+    assert!(rt;
+        matches!(
+            &script.step[1],
+            Step::Start {
+                bound: 1_000_000,
+                ..
+            }
+        )
+    );
+    assert!(rt;
+        matches!(&script.step[2], Step::Start { image, bound: 50_000_000 } if image.as_str() == "app")
+    );
+    Ok(())
+}
+
+#[test]
+fn fields_of_later_keys(rt: HostRuntime) -> Result<(), Fail> {
+    let table = toml::table_from_str(rt.alloc(), "n = \"0x10\"\nbad = \"010\"\nflag = true\n")?;
+    assert!(rt; fields::number_field(&table, "n") == Ok(Some(16)));
+    assert!(rt; fields::number_field(&table, "m") == Ok(None));
+    assert!(rt; fields::number_field(&table, "bad") == Err(ScriptKind::Value));
+    assert!(rt; fields::number_field(&table, "flag") == Err(ScriptKind::Shape));
+    assert!(rt; fields::flag_field(&table, "flag") == Ok(Some(true)));
+    assert!(rt; fields::flag_field(&table, "n") == Err(ScriptKind::Shape));
+    assert!(rt; ScriptKind::Count.name() == "Count");
+    Ok(())
+}
