@@ -1,3 +1,5 @@
 pub mod GapLemmas
 pub mod BlockLemmas
 pub mod PoolLemmas
+pub mod NewPageLemmas
+pub mod PlacedLemmas

@@ -164,3 +164,11 @@ write_pool s pool i offset size x y e h is all can same =
     let inside : i < length s = omega (arith, l) in
     let there : CanPut (get_or s i x).blocks offset size = subst (λ (p : BlockPage). CanPut p.blocks offset size) is (can_there s pool i offset size x e inside is can) in
     subst (λ q. IsPool (slice_set s i q)) (sym (same ∙ ap (λ p. with_block_on p offset size) is)) (put_pool s i offset size x inside there all)
+
+pub write_together : (s pool : List BlockPage) (m : PageList) (i offset size : ℕ) (x y : BlockPage) → s ≡ pool → i < length pool → x ≡ get_or s i x → ((d : BlockPage) → CanPut (get_or pool i d).blocks offset size) → y ≡ with_block_on x offset size
+    → Together pool m → Together (slice_set s i y) m
+write_together s pool m i offset size x y e h is can same together =
+    let l = ap length e in
+    let inside : i < length s = omega (arith, l) in
+    let there : CanPut (get_or s i x).blocks offset size = subst (λ (p : BlockPage). CanPut p.blocks offset size) is (can_there s pool i offset size x e inside is can) in
+    subst (λ q. Together (slice_set s i q) m) (sym (same ∙ ap (λ p. with_block_on p offset size) is)) (put_together s m i offset size x inside there (subst (λ ps. Together ps m) (sym e) together))

@@ -1,13 +1,17 @@
 //! The pool.
 #![tactic(auto)]
 
-ghost use Rattle.std.specs.Prelude.{◌≡◌, ◌<◌, ◌≤◌, ◌+◌, ◌%◌, ℕ, IfOk, IfSome, IfNone, OnOk, OnErr, IfErr, length, [], Some, None, slice_set, slice_index_or};
+ghost use Rattle.std.specs.Prelude.{◌≡◌, ◌<◌, ◌≤◌, ◌+◌, ◌%◌, ℕ, IfOk, IfSome, IfNone, OnOk, OnErr, IfErr, length, [], Some, None, true, slice_set, slice_index_or};
 ghost use Rattle.page_alloc.specs.Pages.{PageList};
+ghost use Rattle.page_alloc.specs.Calls.{may_be_given, allocation};
+ghost use Rattle.pool_alloc.specs.Blocks.{rounded, pages_for};
+ghost use Rattle.pool_alloc.specs.Calls.{Gives, GivesSurely, on_pages, pool_allocation, pool_freeing};
 ghost use Rattle.pool_alloc.specs.Pool.{BlockPage, Placed, put_first, with_block_on, CanPut, IsPool, Together};
 
-use crate::block::Block;
+use crate::block::{Block, pages_for, rounded};
 use crate::page::{LARGEST, PoolPage};
 use crate::refusal::PoolRefusal;
+use page_alloc::{Owner, PageMap, may_be_given};
 use std::alloc::{AllocError, Global};
 use std::marker::Model;
 
@@ -70,10 +74,63 @@ impl Pool {
         ensures at { IfOk result (λ at. (d : BlockPage) → at ≡ (slice_index_or self.old index d).start + offset) }
         ensures ok { OnOk result ((d : BlockPage) → self.new ≡ slice_set self.old index (with_block_on (slice_index_or self.old index d) offset size)) }
         ensures err { OnErr result (self.new ≡ self.old) }
+        ensures together { (m : PageList) → Together self.old m → Together self.new m }
     {
         let page = &mut self.pages[index];
         let at = page.start() + offset;
         page.put(offset, size)?;
         Ok(at)
+    }
+
+    /// Takes new pages at the highest start for a block.
+    fn add(&mut self, map: &mut PageMap, memory_type: u32, size: u64) -> Result<u64, PoolRefusal>
+        requires together { Together self.old map.old }
+        requires known { may_be_given memory_type ≡ true }
+        ensures gives { Gives result (on_pages self.old map.old memory_type (rounded size) (allocation map.old 0 memory_type (pages_for (rounded size)) 0)) self.old map.old self.new map.new }
+        ensures together { Together self.new map.new }
+    {
+        map.whole();
+        let blocks = Vec::with_capacity(*self.pages.allocator(), 1)?;
+        self.pages.reserve(1)?;
+        match map.allocate(Owner::Pool, 0, memory_type, pages_for(size.max(1)), 0) {
+            Ok(start) => {
+                let page = PoolPage::new(start, memory_type, blocks, rounded(size));
+                self.pages.push_reserved(page);
+                Ok(start)
+            }
+            Err(_) => Err(PoolRefusal::NoPages),
+        }
+    }
+
+    /// Gives a block of guest memory of at least so many bytes, as AllocatePool does (UEFI 2.10, section 7.2), and
+    /// answers its address. The size is rounded up to a multiple of 8, and 0 to 8. A block of more than 2,048 bytes
+    /// takes pages of its own. Others take the lowest gap of the first page of their type that has one, in the order
+    /// in which the pages were made, or else a new page. New pages are at the highest start. `Invalid` is for a memory
+    /// type that isn't given, `NoPages` where pages are needed and none fit.
+    #[tactic(auto, unfolding(crate::specs::Calls::pool_allocation))]
+    pub fn allocate(
+        &mut self,
+        map: &mut PageMap,
+        memory_type: u32,
+        size: u64,
+    ) -> Result<u64, PoolRefusal>
+        requires { Together self.old map.old }
+        ensures gives { Gives result (pool_allocation self.old map.old memory_type size) self.old map.old self.new map.new }
+        ensures together { Together self.new map.new }
+    {
+        if !may_be_given(memory_type) {
+            return Err(PoolRefusal::Invalid);
+        }
+        if size > LARGEST {
+            return self.add(map, memory_type, size);
+        }
+        let units = rounded(size);
+        match self.place(memory_type, units) {
+            Some((index, offset)) => match self.put(index, offset, units) {
+                Ok(at) => Ok(at),
+                Err(_) => Err(PoolRefusal::Memory),
+            },
+            None => self.add(map, memory_type, size),
+        }
     }
 }

@@ -1,5 +1,5 @@
 use Rattle.std.proofs.Common.{◌≤◌, ◌+◌, arith}
-use Rattle.pool_alloc.proofs.PoolLemmas.{write_fits, write_pool}
+use Rattle.pool_alloc.proofs.PoolLemmas.{write_fits, write_pool, write_together}
 use Rattle.pool_alloc.proofs.pool.Pool.put.Goals as goal
 
 pub overflow_add-at : goal.overflow_add-at
@@ -10,3 +10,7 @@ overflow_add-at c =
 pub invariant_of-self-2 : goal.invariant_of-self-2
 invariant_of-self-2 c =
     write_pool c.self.inside.pages.items c.args.self.now c.args.index c.args.offset c.args.size _ _ c.self.view_is c.requires.inside c.index_mut-page.ensures.value c.self.invariant c.requires.can c.in_ok-put.ensures.ok
+
+pub returns-clause-together : goal.returns-clause-together
+returns-clause-together c = λ m together.
+    write_together c.self.inside.pages.items c.args.self.now m c.args.index c.args.offset c.args.size _ _ c.self.view_is c.requires.inside c.index_mut-page.ensures.value c.requires.can c.in_ok-put.ensures.ok together
