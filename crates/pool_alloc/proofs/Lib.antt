@@ -3,3 +3,4 @@ pub mod BlockLemmas
 pub mod PoolLemmas
 pub mod NewPageLemmas
 pub mod PlacedLemmas
+pub mod TakeLemmas

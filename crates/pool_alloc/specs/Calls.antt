@@ -7,7 +7,7 @@ use Rattle.page_alloc.specs.Calls.{may_be_given, allocation, after_allocation}
 use Rattle.pool_alloc.specs.declared.refusal.PoolRefusal.{PoolRefusal}
 use Rattle.pool_alloc.specs.declared.refusal.PoolRefusal.TheVariants.{Invalid, NoPages, Memory}
 use Rattle.pool_alloc.specs.Blocks.{rounded, is_large, pages_for}
-use Rattle.pool_alloc.specs.Pool.{BlockPage, Placed, Back, Taken, put_first, take_first}
+use Rattle.pool_alloc.specs.Pool.{BlockPage, Placed, Taken, put_first, take_first}
 
 -- an answer, and the pool and the pages behind it
 pub record Done : Type 0 where
@@ -40,9 +40,9 @@ pool_allocation pool m memory_type size =
     if may_be_given memory_type then on_page pool m memory_type (rounded size) (gap_for pool memory_type (rounded size)) else Err Invalid
 
 -- the pages behind what a pool gives back
-abbrev pub with_back : PageList → Option Back → PageList
+abbrev pub with_back : PageList → Option (ℕ × ℕ) → PageList
 with_back m None = m
-with_back m (Some back) = changed m back.start back.count conventional
+with_back m (Some back) = changed m back.0 back.1 conventional
 
 abbrev pub freed : PageList → Option Taken → Result Done PoolRefusal
 freed m None = Err Invalid

@@ -1,8 +1,8 @@
 -- The pages of the pool, in the order in which they were made.
-use Rattle.std.specs.Prelude.{ℕ, ◌≡◌, ◌<◌, ◌≤◌, ◌+◌, ◌*◌, ◌%◌, ◌^◌, ◌==◌, ◌&&◌, ◌⊎◌, not, Bool, true, false, List, [], ◌∷◌, length, Option, Some, None, if◌then◌else◌}
+use Rattle.std.specs.Prelude.{ℕ, ◌≡◌, ◌<◌, ◌≤◌, ◌+◌, ◌*◌, ◌%◌, ◌^◌, ◌==◌, ◌&&◌, ◌⊎◌, not, Bool, true, false, List, [], ◌∷◌, ◌++◌, length, Option, Some, None, if◌then◌else◌}
 use Rattle.std.specs.List.{list_all, find, filter}
 use Rattle.page_alloc.specs.declared.page.Owner.TheVariants.{Pool}
-use Rattle.page_alloc.specs.Pages.{PageList}
+use Rattle.page_alloc.specs.Pages.{PageList, changed, conventional}
 use Rattle.page_alloc.specs.Calls.{owns}
 use Rattle.pool_alloc.specs.declared.block.Block.{Block}
 use Rattle.pool_alloc.specs.Blocks.{lowest, has_room, is_large, pages_for, with_block}
@@ -52,20 +52,16 @@ begins_at page at block = page.start + block.offset == at
 abbrev pub without : BlockPage → ℕ → BlockPage
 without page at = record page { blocks = filter (λ block. not (begins_at page at block)) page.blocks }
 
--- pages that are given back
-pub record Back : Type 0 where
-  pub start : ℕ
-  pub count : ℕ
-
--- the size of a block that was taken, the pages of the pool behind it, and what is given back
+-- the size of a block that was taken, the pages of the pool behind it, and the pages that are given back, by
+-- their start and number
 pub record Taken : Type 0 where
   pub size : ℕ
   pub pages : List BlockPage
-  pub back : Option Back
+  pub back : Option (ℕ × ℕ)
 
 -- A page without a block is given back.
 abbrev pub left_of : BlockPage → BlockPage → List BlockPage → ℕ → List Block → Taken
-left_of page rest pages size [] = record { size = size; pages = pages; back = Some (record { start = page.start; count = pages_of page.blocks }) }
+left_of page rest pages size [] = record { size = size; pages = pages; back = Some (page.start, pages_of page.blocks) }
 left_of page rest pages size (block ∷ blocks) = record { size = size; pages = rest ∷ pages; back = None }
 
 abbrev pub take_on : BlockPage → List BlockPage → ℕ → Option Block → Option Taken → Option Taken
@@ -77,6 +73,11 @@ take_on page pages at None (Some taken) = Some (record { size = taken.size; page
 unfoldable pub take_first : List BlockPage → ℕ → Option Taken
 take_first [] at = None
 take_first (page ∷ pages) at = take_on page pages at (find (begins_at page at) page.blocks) (take_first pages at)
+
+-- what was taken from the pages behind others
+abbrev pub behind : List BlockPage → Option Taken → Option Taken
+behind before None = None
+behind before (Some taken) = Some (record { size = taken.size; pages = before ++ taken.pages; back = taken.back })
 
 -- blocks from an offset on, by offset: each has a whole number of units of 8 bytes, ends on the page, and has no
 -- byte of another
@@ -132,3 +133,14 @@ IsPool (page ∷ pages) = IsPage page × ApartFrom page pages × IsPool pages
 abbrev pub Together : List BlockPage → PageList → Type 0
 Together [] m = Unit {0}
 Together (page ∷ pages) m = (owns m Pool page.start (pages_of page.blocks) ≡ true) × Together pages m
+
+-- A taking that answers so leads from one pool to another.
+abbrev pub TakeGives : Option (ℕ × Option (ℕ × ℕ)) → Option Taken → List BlockPage → List BlockPage → Type 0
+TakeGives None wanted old new = (wanted ≡ None) × (new ≡ old)
+TakeGives (Some taken) wanted old new = wanted ≡ Some (record { size = taken.0; pages = new; back = taken.1 })
+
+-- Pages that are given back are the pool's, and behind that the rest of it belongs to it still.
+abbrev pub BackGives : Option (ℕ × ℕ) → List BlockPage → PageList → Type 0
+BackGives None new m = Together new m
+BackGives (Some back) new m =
+    (0 < back.1) × (back.0 % 4096 ≡ 0) × (owns m Pool back.0 back.1 ≡ true) × Together new (changed m back.0 back.1 conventional)

@@ -1,12 +1,12 @@
 //! The pool.
 #![tactic(auto)]
 
-ghost use Rattle.std.specs.Prelude.{◌≡◌, ◌<◌, ◌≤◌, ◌+◌, ◌%◌, ℕ, IfOk, IfSome, IfNone, OnOk, OnErr, IfErr, length, [], Some, None, true, slice_set, slice_index_or};
+ghost use Rattle.std.specs.Prelude.{◌≡◌, ◌<◌, ◌≤◌, ◌+◌, ◌%◌, ℕ, IfOk, IfSome, IfNone, OnOk, OnErr, IfErr, length, [], Some, None, true, take, drop, position, slice_set, slice_index_or};
 ghost use Rattle.page_alloc.specs.Pages.{PageList};
 ghost use Rattle.page_alloc.specs.Calls.{may_be_given, allocation};
 ghost use Rattle.pool_alloc.specs.Blocks.{rounded, pages_for};
 ghost use Rattle.pool_alloc.specs.Calls.{Gives, GivesSurely, on_pages, pool_allocation, pool_freeing};
-ghost use Rattle.pool_alloc.specs.Pool.{BlockPage, Placed, put_first, with_block_on, CanPut, IsPool, Together};
+ghost use Rattle.pool_alloc.specs.Pool.{BlockPage, Placed, put_first, with_block_on, take_first, begins_at, behind, TakeGives, BackGives, CanPut, IsPool, Together};
 
 use crate::block::{Block, pages_for, rounded};
 use crate::page::{LARGEST, PoolPage};
@@ -132,5 +132,20 @@ impl Pool {
             },
             None => self.add(map, memory_type, size),
         }
+    }
+
+    /// The page, and the place on it, of the block that begins at an address.
+    fn find(&self, at: u64) -> Option<(usize, usize)>
+        ensures none { IfNone result (take_first self.now at ≡ None) }
+        ensures inside { IfSome result (λ found. found.0 < length self.now) }
+        ensures place { IfSome result (λ found. (d : BlockPage) → position (begins_at (slice_index_or self.now found.0 d) at) (slice_index_or self.now found.0 d).blocks ≡ Some found.1) }
+        ensures before { IfSome result (λ found. behind (take found.0 self.now) (take_first (drop found.0 self.now) at) ≡ take_first self.now at) }
+    {
+        for (index, page) in self.pages.iter().enumerate() {
+            if let Some(place) = page.position(at) {
+                return Some((index, place));
+            }
+        }
+        None
     }
 }
