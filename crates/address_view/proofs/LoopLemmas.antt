@@ -1,24 +1,31 @@
 -- The loops of a store.
-use Rattle.std.proofs.Common.{◌≡◌, ◌≢◌, ℕ, ◌+◌, ◌-◌, ◌/◌, ◌^◌, ◌<◌, ◌≤◌, Bool, true, false, List, refl, sym, ◌∙◌, ap, arith, cond, [], ◌∷◌, ◌++◌, zero, suc, length, take, drop}
-use Rattle.std.specs.Prelude.{Option, Some, None, slice_set, slice_get}
+use Rattle.guest_memory.specs.Runs.{bytes_from, with_bytes}
+use Rattle.std.proofs.Common.{subst, ◌≡◌, ◌≢◌, ℕ, ◌+◌, ◌*◌, ◌-◌, ◌/◌, ◌%◌, ◌^◌, ◌<◌, ◌≤◌, Bool, true, false, List, refl, sym, ◌∙◌, ap, arith, ◌⊎◌, inl, inr, cond, [], ◌∷◌, ◌++◌, zero, suc, not, length, length-set, take, drop}
+use Rattle.std.specs.Prelude.{◌==◌, ◌&&◌, nat_le, nat_lt, if◌then◌else◌, Option, Some, None, Result, Ok, Err, OnOk, OnErr, slice_set, slice_get, slice_index}
+use Rattle.std.proofs.lemmas.Grind.{common_steps}
 use Rattle.std.proofs.lemmas.Bool.Decides.{nat_tests}
-use Rattle.uh_base.specs.Bytes.{next, first_refused}
-use Rattle.rv_step.specs.declared.bus.Access.TheVariants.{Store}
+use Rattle.uh_base.specs.Bytes.{next, first_refused, number_at, with_byte, with_number, loaded}
+use Rattle.uh_base.specs.LittleEndian.{low_bytes}
+use Rattle.rv_step.specs.declared.bus.Access.{Access}
+use Rattle.rv_step.specs.declared.bus.Access.TheVariants.{Load, Store, Fetch}
+use Rattle.rv_step.specs.declared.bus.BusEnd.{BusEnd}
+use Rattle.rv_step.specs.Stores.{StoreEnds, StoredIn}
 use Rattle.guest_memory.specs.Lists.{count_true}
-use Rattle.guest_memory.specs.Pages.{Pages, rights_at, is_touched, or_false}
-use Rattle.guest_memory.specs.Changes.{put_to, TouchedBesides}
-use Rattle.guest_memory.proofs.MarkLemmas.{set_again}
+use Rattle.guest_memory.specs.Pages.{Pages, Whole, bytes_of, rights_at, InPage, holds, page_of, is_touched, or_false}
+use Rattle.guest_memory.specs.Changes.{put_to, put_number, lacks, TouchedBesides}
+use Rattle.guest_memory.specs.declared.rights.Rights.{Rights}
+use Rattle.guest_memory.proofs.MarkLemmas.{set_again, set_twice, too_many}
 use Rattle.address_view.specs.declared.view.Window.{Window}
-use Rattle.address_view.specs.Windows.{see}
-use Rattle.address_view.specs.Seen.{view_allows, behind}
-use Rattle.address_view.specs.Stored.{put_seen, stored, mark_seen, marked, lacks_seen, is_marked, all_marked, all_touched, AllowsStores, PageSeen}
-use Rattle.address_view.proofs.StoreLaws.{unrefused, first_allows}
+use Rattle.address_view.specs.Windows.{AreWindows, see, at_place, seen_bytes}
+use Rattle.address_view.specs.Seen.{may, view_allows, is_seen, behind, AllPass, OnePage}
+use Rattle.address_view.specs.Stored.{put_seen, stored, store_seen, mark_seen, marked, lacks_seen, is_marked, all_marked, all_touched, AllowsStores, PageSeen}
+use Rattle.address_view.proofs.StoreLaws.{unrefused, first_allows, rights_store}
 use Rattle.guest_memory.specs.Lists.{filled}
 use Rattle.guest_memory.proofs.MarkLemmas.{count_set}
 use Rattle.std.proofs.lemmas.List.{set_split, drop_more, drop-drop}
 use Rattle.std.proofs.lemmas.Option.{slice_get-get_or}
-use Rattle.std.proofs.Common.{get_or, add-one, add-zero}
-use Rattle.address_view.proofs.MarkedLemmas.{marked_less, length_mark, base_put, both, seen_keeps, set_there, marked_keeps}
+use Rattle.std.proofs.Common.{get_or, replicate, add-one, add-zero}
+use Rattle.address_view.proofs.MarkedLemmas.{marked_less, length_mark, base_put, both, same_marked, mark_same, seen_keeps, set_there, marked_keeps}
 use Rattle.address_view.proofs.RangeLemmas.{behind_none, behind_next}
 use Rattle.guest_memory.proofs.PageLemmas.{rights_put}
 use Rattle.guest_memory.proofs.RunLemmas.{same_rights}

@@ -1,16 +1,24 @@
 -- The pages that a store marks.
-use Rattle.std.proofs.Common.{◌≡◌, ℕ, ◌+◌, ◌-◌, ◌/◌, ◌<◌, ◌≤◌, Bool, true, false, List, refl, sym, ◌∙◌, ap, arith, [], ◌∷◌, zero, suc, length, length-set}
-use Rattle.std.specs.Prelude.{◌&&◌, if◌then◌else◌, Option, Some, None, slice_set, slice_get}
+use Rattle.guest_memory.specs.Runs.{bytes_from, with_bytes}
+use Rattle.std.proofs.Common.{subst, ◌≡◌, ◌≢◌, ℕ, ◌+◌, ◌*◌, ◌-◌, ◌/◌, ◌%◌, ◌^◌, ◌<◌, ◌≤◌, Bool, true, false, List, refl, sym, ◌∙◌, ap, arith, ◌⊎◌, inl, inr, cond, [], ◌∷◌, ◌++◌, zero, suc, not, length, length-set, take, drop}
+use Rattle.std.specs.Prelude.{◌==◌, ◌&&◌, nat_le, nat_lt, if◌then◌else◌, Option, Some, None, Result, Ok, Err, OnOk, OnErr, slice_set, slice_get, slice_index}
+use Rattle.std.proofs.lemmas.Grind.{common_steps}
 use Rattle.std.proofs.lemmas.Bool.Decides.{nat_tests}
-use Rattle.uh_base.specs.Bytes.{next, first_refused}
-use Rattle.rv_step.specs.declared.bus.Access.TheVariants.{Store}
+use Rattle.uh_base.specs.Bytes.{next, first_refused, number_at, with_byte, with_number, loaded}
+use Rattle.uh_base.specs.LittleEndian.{low_bytes}
+use Rattle.rv_step.specs.declared.bus.Access.{Access}
+use Rattle.rv_step.specs.declared.bus.Access.TheVariants.{Load, Store, Fetch}
+use Rattle.rv_step.specs.declared.bus.BusEnd.{BusEnd}
+use Rattle.rv_step.specs.Stores.{StoreEnds, StoredIn}
 use Rattle.guest_memory.specs.Lists.{count_true}
-use Rattle.guest_memory.specs.Pages.{Pages, rights_at, holds, page_of, or_false}
-use Rattle.guest_memory.proofs.MarkLemmas.{set_again}
+use Rattle.guest_memory.specs.Pages.{Pages, Whole, bytes_of, rights_at, InPage, holds, page_of, is_touched, or_false}
+use Rattle.guest_memory.specs.Changes.{put_to, put_number, lacks, TouchedBesides}
+use Rattle.guest_memory.specs.declared.rights.Rights.{Rights}
+use Rattle.guest_memory.proofs.MarkLemmas.{set_again, set_twice, too_many}
 use Rattle.address_view.specs.declared.view.Window.{Window}
-use Rattle.address_view.specs.Windows.{see, at_place}
-use Rattle.address_view.specs.Seen.{may, view_allows}
-use Rattle.address_view.specs.Stored.{put_seen, stored, mark_seen, marked, lacks_seen, is_marked, all_marked, all_touched, AllowsStores, PageSeen}
+use Rattle.address_view.specs.Windows.{AreWindows, see, at_place, seen_bytes}
+use Rattle.address_view.specs.Seen.{may, view_allows, is_seen, behind, AllPass, OnePage}
+use Rattle.address_view.specs.Stored.{put_seen, stored, store_seen, mark_seen, marked, lacks_seen, is_marked, all_marked, all_touched, AllowsStores, PageSeen}
 use Rattle.guest_memory.proofs.RunLemmas.{page_held}
 use Rattle.address_view.proofs.PageRun.{held}
 use Rattle.address_view.proofs.StoreLaws.{unrefused, allowed_place}

@@ -31,11 +31,6 @@ behind at i = (at + i) % 2 ^ 64
 abbrev pub AllPass : (ℕ → Bool) → ℕ → ℕ → Type 0
 AllPass test at len = (i : ℕ) → i < len → test (behind at i) ≡ true
 
--- so many bytes from an address on, in order
-unfoldable pub bytes_from : (ℕ → ℕ) → ℕ → ℕ → List ℕ
-bytes_from bytes at zero = []
-bytes_from bytes at (suc n) = bytes at ∷ bytes_from bytes (next at) n
-
 -- so many addresses that show one page of memory, from a place on, and allow an access
 pub record OnePage (view : List Window) (m : Pages) (kind : Access) (at width place : ℕ) : Type 0 where
   pub seen : (i : ℕ) → i < width → see view (at + i) ≡ Some (place + i)

@@ -51,11 +51,6 @@ all_marked view base marks at (suc n) = is_marked base marks (see view at) && al
 abbrev pub all_touched : List Window → Pages → ℕ → ℕ → Bool
 all_touched view m at n = all_marked view m.base m.touched at n
 
--- the bytes with others written from an address on
-unfoldable pub with_bytes : (ℕ → ℕ) → ℕ → List ℕ → ℕ → ℕ
-with_bytes bytes at [] = bytes
-with_bytes bytes at (b ∷ bs) = with_bytes (with_byte bytes at b) (next at) bs
-
 -- A store of bytes at addresses that allow it, which ends so, leads from old to new; `n` is how many they are.
 abbrev pub StoreGives : {X : Type 0} → Result X PutEnd → List Window → Pages → Pages → ℕ → List ℕ → ℕ → Type 0
 StoreGives (Ok done) view old new at bytes n = (lacks_seen view old at n ≡ false) × (new ≡ stored view old at bytes)

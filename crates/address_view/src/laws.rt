@@ -1,12 +1,12 @@
 //! Laws of windows and of stores through them.
 #![tactic(auto)]
 
+ghost use Rattle.guest_memory.specs.Runs.{with_bytes};
 ghost use Rattle.std.specs.Prelude.{◌≡◌, ◌≢◌, ◌↔◌, ◌<◌, ◌≤◌, ◌^◌, ℕ, List, Some, length, slice_index};
 ghost use Rattle.uh_base.specs.Bytes.{with_byte};
 ghost use Rattle.address_view.specs.declared.view.Window.{Window as AnyWindow};
 ghost use Rattle.address_view.specs.Windows.{AreWindows, see, shown_at, seen_bytes};
 ghost use Rattle.address_view.specs.Seen.{behind};
-ghost use Rattle.address_view.specs.Stored.{with_bytes};
 
 /// No place is seen at two addresses.
 #[tactic(auto, using(crate::proofs::ViewLemmas::one_address))]

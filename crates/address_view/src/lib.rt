@@ -5,6 +5,8 @@ mod access;
 mod laws;
 mod ranges;
 mod store;
+#[cfg(test)]
+mod tests;
 mod view;
 mod viewed;
 

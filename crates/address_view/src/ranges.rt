@@ -1,12 +1,13 @@
 //! Byte ranges through a view.
 #![tactic(auto)]
 
+ghost use Rattle.guest_memory.specs.Runs.{bytes_from, with_bytes};
 ghost use Rattle.std.specs.Prelude.{◌≡◌, ◌↔◌, IsTrue, IfOk, OnOk, OnErr, length, if◌then◌else◌};
 ghost use Rattle.rv_step.specs.declared.bus.Access.{Access};
 ghost use Rattle.guest_memory.specs.Pages.{bytes_of, rights_at};
 ghost use Rattle.address_view.specs.Windows.{seen_bytes};
-ghost use Rattle.address_view.specs.Seen.{AllPass, is_seen, view_allows, bytes_from};
-ghost use Rattle.address_view.specs.Stored.{StoreGives, with_bytes};
+ghost use Rattle.address_view.specs.Seen.{AllPass, is_seen, view_allows};
+ghost use Rattle.address_view.specs.Stored.{StoreGives};
 
 use crate::access::{byte_at, next, refused};
 use crate::store::store_all;
@@ -48,7 +49,7 @@ fn is_seen_at(memory: &GuestMemory, view: &View, at: u64) -> bool
 }
 
 /// So many bytes from an address on, each of which is seen at a page of memory, whatever its rights.
-#[tactic(auto, unfolding(crate::specs::Seen::bytes_from))]
+#[tactic(auto, unfolding(guest_memory::specs::Runs::bytes_from))]
 pub fn load_bytes(
     alloc: Global,
     memory: &GuestMemory,

@@ -2,3 +2,4 @@ pub mod MarkLemmas
 pub mod PageLemmas
 pub mod RunLemmas
 pub mod NumberLemmas
+pub mod PartLemmas

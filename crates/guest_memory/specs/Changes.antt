@@ -1,7 +1,7 @@
 -- What the calls of a memory make of it.
-use Rattle.std.specs.Prelude.{ℕ, zero, suc, ◌≡◌, ◌+◌, ◌-◌, ◌*◌, ◌/◌, ◌%◌, ◌<◌, ◌≤◌, ◌==◌, ◌&&◌, ◌||◌, not, nat_lt, nat_le, Bool, true, false, Result, Ok, Err, slice_set}
+use Rattle.std.specs.Prelude.{ℕ, zero, suc, ◌≡◌, ◌+◌, ◌-◌, ◌*◌, ◌/◌, ◌%◌, ◌<◌, ◌≤◌, ◌==◌, ◌&&◌, ◌||◌, not, nat_lt, nat_le, Bool, true, false, List, Result, Ok, Err, slice_set}
 use Rattle.uh_base.specs.Bytes.{next}
-use Rattle.guest_memory.specs.Lists.{filled, count_true}
+use Rattle.guest_memory.specs.Lists.{filled, written_over, count_true}
 use Rattle.guest_memory.specs.Pages.{Pages, holds, page_of, is_touched, all_rights}
 use Rattle.guest_memory.specs.declared.rights.Rights.{Rights}
 use Rattle.guest_memory.specs.declared.rights.PutEnd.{PutEnd}
@@ -44,6 +44,17 @@ NumberGives (Ok done) old new at width value = (lacks old (page_of old at) ≡ f
 NumberGives (Err Outside) old new at width value = ⊥
 NumberGives (Err Frames) old new at width value = (lacks old (page_of old at) ≡ true) × (new ≡ old)
 NumberGives (Err Memory) old new at width value = (lacks old (page_of old at) ≡ false) × (is_touched old (page_of old at) ≡ false) × (new ≡ old)
+
+-- the memory with bytes put in one page
+abbrev pub put_part : Pages → ℕ → List ℕ → Pages
+put_part m at bytes = record m { bytes = written_over m.bytes (at - m.base) bytes; touched = slice_set m.touched (page_of m at) true }
+
+-- A put of bytes in one page of memory that ends so leads from old to new.
+abbrev pub PartGives : {X : Type 0} → Result X PutEnd → Pages → Pages → ℕ → List ℕ → Type 0
+PartGives (Ok done) old new at bytes = (lacks old (page_of old at) ≡ false) × (new ≡ put_part old at bytes)
+PartGives (Err Outside) old new at bytes = ⊥
+PartGives (Err Frames) old new at bytes = (lacks old (page_of old at) ≡ true) × (new ≡ old)
+PartGives (Err Memory) old new at bytes = (lacks old (page_of old at) ≡ false) × (is_touched old (page_of old at) ≡ false) × (new ≡ old)
 
 -- whether each of so many pages, from a page on, is in memory
 abbrev pub has_pages : Pages → ℕ → ℕ → Bool

@@ -4,8 +4,9 @@
 ghost use Rattle.std.specs.Prelude.{◌≡◌, ◌<◌, ◌≤◌, ◌+◌, ◌*◌, ◌-◌, ◌%◌, ◌^◌, ℕ, true, false, IsTrue, IfOk, OnOk, Some, None, length, replicate, slice_get, if◌then◌else◌};
 ghost use Rattle.uh_base.specs.Bytes.{is_width, number_at, with_byte, with_number};
 ghost use Rattle.guest_memory.specs.Lists.{count_true};
+ghost use Rattle.guest_memory.specs.Runs.{bytes_from, with_bytes};
 ghost use Rattle.guest_memory.specs.Pages.{Pages, Whole, InPage, all_rights, holds, page_of, bytes_of, rights_at, is_touched};
-ghost use Rattle.guest_memory.specs.Changes.{TouchGives, PutGives, NumberGives, ReserveGives, put_number, has_pages, cleared, with_rights, in_run};
+ghost use Rattle.guest_memory.specs.Changes.{TouchGives, PutGives, NumberGives, PartGives, ReserveGives, put_number, has_pages, cleared, with_rights, in_run};
 
 use crate::parts::{count_part, fill, number_of, write_low};
 use crate::rights::{PutEnd, Rights};
@@ -287,6 +288,42 @@ impl GuestMemory {
     {
         let first = (at - self.base) as usize;
         number_of(&self.bytes[first..first + width as usize])
+    }
+
+    /// Copies bytes out of one page.
+    pub fn read_part(&self, at: u64, to: &mut [u8])
+        requires { InPage self.now at (length to.old) }
+        ensures { to.new ≡ bytes_from (bytes_of self.now) at (length to.old) }
+    {
+        let first = (at - self.base) as usize;
+        let last = first + to.len();
+        to.copy_from_slice(&self.bytes[first..last]);
+    }
+
+    /// Copies bytes into one page, and touches the page.
+    #[tactic(auto, using(crate::proofs::PartLemmas::bytes_parted, crate::proofs::PartLemmas::rights_parted, crate::proofs::PartLemmas::base_parted, crate::proofs::PartLemmas::pages_parted))]
+    pub fn put_part(&mut self, at: u64, from: &[u8]) -> Result<(), PutEnd>
+        requires inside { InPage self.old at (length from.now) }
+        requires some { 1 ≤ length from.now }
+        ensures gives { PartGives result self.old self.new at from.now }
+        ensures bytes { OnOk result (bytes_of self.new ≡ with_bytes (bytes_of self.old) at from.now) }
+        ensures rights { rights_at self.new ≡ rights_at self.old }
+        ensures base { self.new.base ≡ self.old.base }
+        ensures pages { self.new.pages ≡ self.old.pages }
+    {
+        self.whole();
+        self.part_in_page(at, from)
+    }
+
+    fn part_in_page(&mut self, at: u64, from: &[u8]) -> Result<(), PutEnd>
+        requires inside { InPage self.old at (length from.now) }
+        requires some { 1 ≤ length from.now }
+        ensures { PartGives result self.old self.new at from.now }
+    {
+        self.touch(((at - self.base) / PAGE as u64) as u32)?;
+        let first = (at - self.base) as usize;
+        self.bytes[first..first + from.len()].copy_from_slice(from);
+        Ok(())
     }
 
     /// Puts a number of 1, 2, 4 or 8 bytes in one page, the least byte first, and touches the page.

@@ -1,7 +1,7 @@
+use Rattle.guest_memory.specs.Runs.{bytes_from}
 use Rattle.std.proofs.Common.{◌≡◌, ◌-◌, ◌++◌}
 use Rattle.guest_memory.specs.Pages.{bytes_of}
 use Rattle.address_view.specs.Windows.{seen_bytes}
-use Rattle.address_view.specs.Seen.{bytes_from}
 use Rattle.address_view.proofs.ranges.load_bytes.Given as goal
 
 abbrev pub invariant-loop : goal.invariant-loop
