@@ -1,5 +1,5 @@
 -- What the calls of a memory make of it.
-use Rattle.std.specs.Prelude.{ℕ, zero, suc, ◌≡◌, ◌+◌, ◌-◌, ◌*◌, ◌/◌, ◌%◌, ◌<◌, ◌≤◌, ◌==◌, ◌&&◌, ◌||◌, not, nat_lt, nat_le, Bool, true, false, List, Result, Ok, Err, slice_set}
+use Rattle.std.specs.Prelude.{ℕ, zero, suc, ◌≡◌, ◌+◌, ◌-◌, ◌*◌, ◌/◌, ◌%◌, ◌<◌, ◌≤◌, ◌==◌, ◌&&◌, ◌||◌, not, nat_lt, nat_le, Bool, true, false, List, length, Result, Ok, Err, slice_set}
 use Rattle.uh_base.specs.Bytes.{next}
 use Rattle.guest_memory.specs.Lists.{filled, written_over, count_true}
 use Rattle.guest_memory.specs.Pages.{Pages, holds, page_of, is_touched, all_rights}
@@ -85,6 +85,18 @@ ReserveGives (Err Frames) old new page count =
     (has_pages old page count ≡ true) × (65536 < count_true (reserved old page count).touched) × (new ≡ old)
 ReserveGives (Err Memory) old new page count =
     (has_pages old page count ≡ true) × (count_true (reserved old page count).touched ≤ 65536) × SomeUntouched old page count × TouchedBesides old new
+
+-- the memory with bytes written over whole pages from a page on, which are touched
+abbrev pub written_pages : Pages → ℕ → List ℕ → Pages
+written_pages m page bytes = record (reserved m page (length bytes / 4096)) { bytes = written_over m.bytes (4096 * page) bytes }
+
+-- A write of whole pages that ends so leads from old to new.
+abbrev pub PagesGive : {X : Type 0} → Result X PutEnd → Pages → Pages → ℕ → List ℕ → Type 0
+PagesGive (Ok done) old new page bytes = (count_true (reserved old page (length bytes / 4096)).touched ≤ 65536) × (new ≡ written_pages old page bytes)
+PagesGive (Err Outside) old new page bytes = ⊥
+PagesGive (Err Frames) old new page bytes = (65536 < count_true (reserved old page (length bytes / 4096)).touched) × (new ≡ old)
+PagesGive (Err Memory) old new page bytes =
+    (count_true (reserved old page (length bytes / 4096)).touched ≤ 65536) × SomeUntouched old page (length bytes / 4096) × TouchedBesides old new
 
 -- the memory with zeros, all rights and no mark at so many pages, from a page on
 abbrev pub cleared : Pages → ℕ → ℕ → Pages

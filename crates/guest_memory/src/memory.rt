@@ -6,7 +6,7 @@ ghost use Rattle.uh_base.specs.Bytes.{is_width, number_at, with_byte, with_numbe
 ghost use Rattle.guest_memory.specs.Lists.{count_true};
 ghost use Rattle.guest_memory.specs.Runs.{bytes_from, with_bytes};
 ghost use Rattle.guest_memory.specs.Pages.{Pages, Whole, InPage, all_rights, holds, page_of, bytes_of, rights_at, is_touched};
-ghost use Rattle.guest_memory.specs.Changes.{TouchGives, PutGives, NumberGives, PartGives, ReserveGives, put_number, has_pages, cleared, with_rights, in_run};
+ghost use Rattle.guest_memory.specs.Changes.{TouchGives, PutGives, NumberGives, PartGives, PagesGive, ReserveGives, put_number, has_pages, cleared, with_rights, in_run};
 
 use crate::parts::{count_part, fill, number_of, write_low};
 use crate::rights::{PutEnd, Rights};
@@ -211,6 +211,27 @@ impl GuestMemory {
             return Err(PutEnd::Outside);
         }
         self.mark(page, count)
+    }
+
+    /// Writes bytes over whole pages from a page on, counted from the base, and touches these pages.
+    pub fn write_pages(&mut self, page: u32, bytes: &[u8]) -> Result<(), PutEnd>
+        requires whole { length bytes.now % 4096 ≡ 0 }
+        requires inside { 4096 * page + length bytes.now ≤ 4096 * self.old.pages }
+        ensures gives { PagesGive result self.old self.new page bytes.now }
+        ensures base { self.new.base ≡ self.old.base }
+        ensures pages { self.new.pages ≡ self.old.pages }
+    {
+        self.whole();
+        let count = (bytes.len() / PAGE) as u32;
+        match self.reserve(page, count) {
+            Ok(()) => {
+                let first = PAGE * page as usize;
+                self.bytes[first..first + bytes.len()].copy_from_slice(bytes);
+                Ok(())
+            }
+            Err(PutEnd::Outside) => unreachable!(),
+            Err(end) => Err(end),
+        }
     }
 
     fn has_pages(&self, page: u32, count: u32) -> bool
