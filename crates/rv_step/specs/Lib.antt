@@ -5,3 +5,4 @@ pub mod Exec
 pub mod Steps
 pub mod Numbers
 pub mod Memory
+pub mod Division
