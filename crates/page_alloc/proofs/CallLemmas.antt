@@ -12,12 +12,11 @@ use Rattle.page_alloc.specs.declared.page.PageRefusal.{PageRefusal}
 use Rattle.page_alloc.specs.declared.page.PageRefusal.TheVariants.{Invalid, NotFound, NoPages}
 use Rattle.page_alloc.specs.Pages.{PageList, Whole, IsNobodys, all_from, with_pages, changed, index_of, is_conventional, conventional}
 use Rattle.page_alloc.specs.Fit.{fit}
-use Rattle.page_alloc.specs.Calls.{allocation, given, is_request, may_be_given, owns, is_same_owner}
+use Rattle.page_alloc.specs.Calls.{allocation, given, is_request, may_be_given, owns, freeing, is_same_owner}
 use Rattle.page_alloc.proofs.PageLemmas.{Passes, all_from_tells, and_true, length-with_pages}
 use Rattle.page_alloc.proofs.FitLemmas.{fit_inside}
 
 module _ (pages : List Page) (i n : ℕ) (page : Page) (inside : i + n ≤ length pages) where
-
   front_long : length (take i pages ++ replicate n page) ≡ i + n
   front_long = length-append (take i pages) (replicate n page) ∙ ap (λ k. k + length (replicate n page)) (length-take-le i pages (omega arith)) ∙ ap (λ k. i + k) (length-replicate n page)
 
@@ -53,11 +52,12 @@ pub record Owns (m : PageList) (owner : Owner) (at n : ℕ) : Type 0 where
 
 pub owns_tells : (m : PageList) (owner : Owner) (at n : ℕ) → Decides (owns m owner at n) (Owns m owner at n)
 unfolding owns
-owns_tells m owner at n =
-    (λ h. let p = and_true (nat_le m.base at) (all_from (has_owner owner) m.pages (index_of m at) n) h in
+owns_tells m owner at n = (
+  λ h. let p = and_true (nat_le m.base at) (all_from (has_owner owner) m.pages (index_of m at) n) h in
       let q : nat_le m.base at ≡ true = p.0 in
       record { low = grind (arith, nat_tests); each = (all_from_tells (has_owner owner) m.pages (index_of m at) n).0 p.1 },
-     λ o. let l = o.low in let q : nat_le m.base at ≡ true = grind (arith, nat_tests) in rw q ((all_from_tells (has_owner owner) m.pages (index_of m at) n).1 o.each))
+  λ o. let l = o.low in let q : nat_le m.base at ≡ true = grind (arith, nat_tests) in rw q ((all_from_tells (has_owner owner) m.pages (index_of m at) n).1 o.each),
+)
 
 -- pages that became an owner's
 pub owns_changed : (m : PageList) (at n : ℕ) (page : Page) → m.base ≤ at → index_of m at + n ≤ length m.pages → is_same_owner page.owner page.owner ≡ true → owns (changed m at n page) page.owner at n ≡ true
@@ -66,8 +66,8 @@ owns_changed m at n page low inside same = (owns_tells (record { base = m.base; 
   low = low;
   each = record {
     inside = (let l = length-with_pages m.pages (index_of m at) n page inside in omega (arith, l));
-    each = λ k d from to. ap (λ (p : Page). is_same_owner p.owner page.owner) (page_there m.pages (index_of m at) n page inside k d from to) ∙ same
-  }
+    each = λ k d from to. ap (λ (p : Page). is_same_owner p.owner page.owner) (page_there m.pages (index_of m at) n page inside k d from to) ∙ same;
+  };
 })
 
 -- pages of which none became another's
@@ -81,10 +81,10 @@ owns_kept m owner p count at n page inside apart h =
       each = record {
         inside = (let l = length-with_pages m.pages (index_of m at) n page inside in let i = o.each.inside in omega (arith, l, i));
         each = λ k d from to. ap (has_owner owner) (elim apart [
-            inl before ↦ page_before m.pages (index_of m at) n page inside k d (omega arith)
+          | inl before ↦ page_before m.pages (index_of m at) n page inside k d (omega arith)
           | inr behind ↦ page_behind m.pages (index_of m at) n page inside k d (omega arith)
-          ]) ∙ o.each.each k d from to
-      }
+        ]) ∙ o.each.each k d from to;
+      };
     })
 
 -- what was given was conventional
@@ -114,7 +114,7 @@ given_by m kind at pages start (Some i) some e h =
       low = omega arith;
       there = omega arith;
       some = some;
-      each = subst (λ k. Passes is_conventional m.pages k pages) index (fit_inside m kind at pages i some e)
+      each = subst (λ k. Passes is_conventional m.pages k pages) index (fit_inside m kind at pages i some e);
     }
 
 pub is_given : (m : PageList) (kind t pages at start : ℕ) → allocation m kind t pages at ≡ Ok start → Given m start pages
@@ -141,14 +141,22 @@ given_apart m owner p count start n whole other some h g =
     let i = o.each.inside in
     let j = g.each.inside in
     elim (leb_tells (index_of m p + count) (index_of m start)) [
-      inl q ↦ inl q.1
-    | inr q ↦ elim (leb_tells (index_of m start + n) (index_of m p)) [
-        inl r ↦ inr r.1
-      | inr r ↦ absurd (let over = q.1 in let under = r.1 in elim (leb_tells (index_of m p) (index_of m start)) [
-          inl s ↦ (let low : index_of m p ≤ index_of m start = s.1 in
-            clash owner (get_or m.pages (index_of m start) conventional) other (whole.free (index_of m start) conventional (omega arith)) (g.each.each (index_of m start) conventional (omega arith) (omega arith)) (o.each.each (index_of m start) conventional low over))
-        | inr s ↦ (let low : index_of m start < index_of m p = s.1 in
-            clash owner (get_or m.pages (index_of m p) conventional) other (whole.free (index_of m p) conventional (omega arith)) (g.each.each (index_of m p) conventional (omega arith) under) (o.each.each (index_of m p) conventional (omega arith) (omega arith)))
+      | inl q ↦ inl q.1
+      | inr q ↦ elim (leb_tells (index_of m start + n) (index_of m p)) [
+        | inl r ↦ inr r.1
+        | inr r ↦ absurd (let over = q.1 in let under = r.1 in elim (leb_tells (index_of m p) (index_of m start)) [
+          | inl s ↦ (let low : index_of m p ≤ index_of m start = s.1 in
+              clash owner (get_or m.pages (index_of m start) conventional) other (whole.free (index_of m start) conventional (omega arith)) (g.each.each (index_of m start) conventional (omega arith) (omega arith)) (o.each.each (index_of m start) conventional low over))
+          | inr s ↦ (let low : index_of m start < index_of m p = s.1 in
+              clash owner (get_or m.pages (index_of m p) conventional) other (whole.free (index_of m p) conventional (omega arith)) (g.each.each (index_of m p) conventional (omega arith) under) (o.each.each (index_of m p) conventional (omega arith) (omega arith)))
         ])
       ]
     ]
+
+-- an owner's pages can be freed
+pub free_owned : (m : PageList) (owner : Owner) (at n : ℕ) → at % 4096 ≡ 0 → 0 < n → owns m owner at n ≡ true → freeing m owner at n ≡ Ok tt
+unfolding freeing
+free_owned m owner at n even some owned =
+    let p : (at % 4096 == 0) ≡ true = grind (arith, nat_tests) in
+    let q : nat_lt 0 n ≡ true = grind (arith, nat_tests) in
+    rw (p, q, owned) refl

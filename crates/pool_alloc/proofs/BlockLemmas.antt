@@ -57,7 +57,7 @@ put_is_shared blocks offset size can =
     }
 
 -- blocks that are there
-some_blocks : (blocks : List Block) → 0 < length blocks → AreShared blocks → AreBlocks blocks
+pub some_blocks : (blocks : List Block) → 0 < length blocks → AreShared blocks → AreBlocks blocks
 some_blocks [] h shared = absurd (omega arith)
 some_blocks (b ∷ bs) h shared = inr shared
 

@@ -4,3 +4,6 @@ pub mod PoolLemmas
 pub mod NewPageLemmas
 pub mod PlacedLemmas
 pub mod TakeLemmas
+pub mod RestLemmas
+pub mod BackLemmas
+pub mod TakingLemmas

@@ -50,7 +50,7 @@ rounded_pages size = by (size == 0) refl
     by false e = let some : size ≢ 0 = grind (arith, nat_tests) in omega (arith, some)
 
 -- the pages that blocks take
-some_pages : (blocks : List Block) → AreBlocks blocks → 0 < pages_of blocks
+pub some_pages : (blocks : List Block) → AreBlocks blocks → 0 < pages_of blocks
 some_pages [] all = absurd all
 some_pages (b ∷ bs) (inl large) = let l : 2048 < b.size = (let h = large.large in grind (arith, nat_tests)) in omega arith
 some_pages (b ∷ bs) (inr shared) = let one = shared_pages (b ∷ bs) shared in omega (arith, one)
@@ -63,14 +63,14 @@ new_blocks : (size : ℕ) → 0 < size → size % 8 ≡ 0 → (b : Bool) → is_
 new_blocks size some units true large = inl (record { large = large; first = refl; units = units; alone = refl })
 new_blocks size some units false small = inr (record {
   shared = rw small refl;
-  order = (let l : size ≤ 2048 = grind (arith, nat_tests) in (omega arith, some, omega arith, units, omega arith, tt))
+  order = (let l : size ≤ 2048 = grind (arith, nat_tests) in (omega arith, some, omega arith, units, omega arith, tt));
 })
 
 new_is_page : (m : PageList) (start t size : ℕ) → Whole m → 0 < size → size % 8 ≡ 0 → Given m start (pages_for size) → IsPage (new_page start t size)
 new_is_page m start t size whole some units g = record {
   blocks = new_blocks size some units (is_large size) refl;
   on_page = (let e = g.there in let even = whole.ram.on_page in omega (arith, e, even));
-  end = (let e = g.there in let i = g.each.inside in let end = whole.ram.end in omega (arith, e, i, end))
+  end = (let e = g.there in let i = g.each.inside in let end = whole.ram.end in omega (arith, e, i, end));
 }
 
 -- an old page and a new one
@@ -98,9 +98,10 @@ add_pool (p ∷ ps) m start t size whole some units g all together =
 pub add_together : (pool : List BlockPage) (m : PageList) (start t size : ℕ) → Whole m → Given m start (pages_for size) → IsPool pool → Together pool m
     → Together (pool ++ new_page start t size ∷ []) (changed m start (pages_for size) (record { memory_type = t; owner = Pool }))
 add_together [] m start t size whole g all together = (owns_changed m start (pages_for size) (record { memory_type = t; owner = Pool }) g.low g.each.inside refl, tt)
-add_together (p ∷ ps) m start t size whole g all together =
-    (owns_kept m Pool p.start (pages_of p.blocks) start (pages_for size) (record { memory_type = t; owner = Pool }) g.each.inside (old_apart m p start t size whole all.0 together.0 g) together.0,
-     add_together ps m start t size whole g all.2 together.1)
+add_together (p ∷ ps) m start t size whole g all together = (
+  owns_kept m Pool p.start (pages_of p.blocks) start (pages_for size) (record { memory_type = t; owner = Pool }) g.each.inside (old_apart m p start t size whole all.0 together.0 g) together.0,
+  add_together ps m start t size whole g all.2 together.1,
+)
 
 -- what the code takes
 pub add_given : (m : PageList) (t size k n start : ℕ) → k ≡ max size 1 → n ≡ pages_for k → Ok start ≡ allocation m 0 t n 0 → Given m start (pages_for (rounded size))
@@ -129,8 +130,8 @@ pub added_together : (s pool r zs : List BlockPage) (x : BlockPage) (m m' : Page
     → Whole m → Given m start (pages_for (rounded size)) → IsPool s → Together pool m → m' ≡ changed m start c (record { memory_type = t; owner = Pool }) → c ≡ pages_for (rounded size) → Together zs m'
 added_together s pool r zs x m m' start t size n c e f g h k whole given all together changes count =
     subst (λ ps. Together ps m') (sym (new_pages s pool r zs x start t size n e f g h k))
-      (subst (λ w. Together (pool ++ new_page start t (rounded size) ∷ []) w) (sym (changes ∙ ap (λ j. changed m start j (record { memory_type = t; owner = Pool })) count))
-        (add_together pool m start t (rounded size) whole given (subst IsPool e all) together))
+    (subst (λ w. Together (pool ++ new_page start t (rounded size) ∷ []) w) (sym (changes ∙ ap (λ j. changed m start j (record { memory_type = t; owner = Pool })) count))
+    (add_together pool m start t (rounded size) whole given (subst IsPool e all) together))
 
 pub add_count : (size k n : ℕ) → k ≡ max size 1 → n ≡ pages_for k → n ≡ pages_for (rounded size)
 add_count size k n e f = f ∙ ap pages_for e ∙ rounded_pages size

@@ -21,5 +21,5 @@ placed_gives pool new m t size n index offset at known small units placed there 
     let fits = rounded_small size small in
     let not_large : is_large (rounded size) ≡ false = grind (arith, nat_tests) in
     let gap : gap_for pool t (rounded size) ≡ Some (record { at = at; pages = new })
-        = rw not_large (ap (λ k. put_first pool t k) (sym units) ∙ placed blank ∙ ap (λ a. Some (record { at = a; pages = slice_set pool index (with_block_on (get_or pool index blank) offset n) })) (sym (there blank)) ∙ ap (λ ps. Some (record { at = at; pages = ps })) (sym (behind blank))) in
+    = rw not_large (ap (λ k. put_first pool t k) (sym units) ∙ placed blank ∙ ap (λ a. Some (record { at = a; pages = slice_set pool index (with_block_on (get_or pool index blank) offset n) })) (sym (there blank)) ∙ ap (λ ps. Some (record { at = at; pages = ps })) (sym (behind blank))) in
     rw known (ap (λ o. on_page pool m t (rounded size) o) gap)

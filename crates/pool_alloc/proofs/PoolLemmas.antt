@@ -66,7 +66,7 @@ can_put page t size offset is some small units e = by (page.memory_type == t && 
     by false h found = absurd (cc)
 
 -- a page with other blocks in its place
-record SamePlace (p q : BlockPage) : Type 0 where
+pub record SamePlace (p q : BlockPage) : Type 0 where
   pub start : q.start ≡ p.start
   pub pages : pages_of q.blocks ≡ pages_of p.blocks
 
@@ -87,12 +87,12 @@ from_right p [] i q' d h same all = tt
 from_right p (q ∷ qs) zero q' d h same all = (apart_right p q q' same all.0, all.1)
 from_right p (q ∷ qs) (suc i) q' d h same all = (all.0, from_right p qs i q' d (omega arith) same all.1)
 
-pool_set : (pool : List BlockPage) (i : ℕ) (q' d : BlockPage) → i < length pool → SamePlace (get_or pool i d) q' → IsPage q' → IsPool pool → IsPool (slice_set pool i q')
+pub pool_set : (pool : List BlockPage) (i : ℕ) (q' d : BlockPage) → i < length pool → SamePlace (get_or pool i d) q' → IsPage q' → IsPool pool → IsPool (slice_set pool i q')
 pool_set [] i q' d h same is all = tt
 pool_set (p ∷ ps) zero q' d h same is all = (is, from_left p q' ps same all.1, all.2)
 pool_set (p ∷ ps) (suc i) q' d h same is all = (all.0, from_right p ps i q' d (omega arith) same all.1, pool_set ps i q' d (omega arith) same is all.2)
 
-together_set : (pool : List BlockPage) (m : PageList) (i : ℕ) (q' d : BlockPage) → i < length pool → SamePlace (get_or pool i d) q' → Together pool m → Together (slice_set pool i q') m
+pub together_set : (pool : List BlockPage) (m : PageList) (i : ℕ) (q' d : BlockPage) → i < length pool → SamePlace (get_or pool i d) q' → Together pool m → Together (slice_set pool i q') m
 together_set [] m i q' d h same all = tt
 together_set (p ∷ ps) m zero q' d h same all = (ap (λ s. owns m Pool s (pages_of q'.blocks)) same.start ∙ ap (λ n. owns m Pool p.start n) same.pages ∙ all.0, all.1)
 together_set (p ∷ ps) m (suc i) q' d h same all = (all.0, together_set ps m i q' d (omega arith) same all.1)
@@ -172,3 +172,6 @@ write_together s pool m i offset size x y e h is can same together =
     let inside : i < length s = omega (arith, l) in
     let there : CanPut (get_or s i x).blocks offset size = subst (λ (p : BlockPage). CanPut p.blocks offset size) is (can_there s pool i offset size x e inside is can) in
     subst (λ q. Together (slice_set s i q) m) (sym (same ∙ ap (λ p. with_block_on p offset size) is)) (put_together s m i offset size x inside there (subst (λ ps. Together ps m) (sym e) together))
+
+pub read_blocks : (s : List BlockPage) (i : ℕ) (x : BlockPage) → i < length s → x ≡ get_or s i x → IsPool s → AreBlocks x.blocks
+read_blocks s i x h is all = (read_page s s i x refl h is all).blocks

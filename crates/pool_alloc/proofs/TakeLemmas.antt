@@ -51,8 +51,8 @@ unfolding take_first
 behind_more pool i at x h is none so_far =
     let missing : find (begins_at (get_or pool i x) at) (get_or pool i x).blocks ≡ None = ap (λ (p : BlockPage). find (begins_at p at) p.blocks) (sym is) ∙ find_none (begins_at x at) x.blocks none in
     sym (ap (λ o. behind (take i pool) o) (at_drop_more (λ ps. take_first ps at) pool i x h ∙ ap (λ o. take_on (get_or pool i x) (drop (i + 1) pool) at o (take_first (drop (i + 1) pool) at)) missing)
-      ∙ over_page (take i pool) (get_or pool i x) (drop (i + 1) pool) at (take_first (drop (i + 1) pool) at)
-      ∙ ap (λ before. behind before (take_first (drop (i + 1) pool) at)) (sym (take_more pool i x h)))
+    ∙ over_page (take i pool) (get_or pool i x) (drop (i + 1) pool) at (take_first (drop (i + 1) pool) at)
+    ∙ ap (λ before. behind before (take_first (drop (i + 1) pool) at)) (sym (take_more pool i x h)))
     ∙ so_far
 
 pub behind_over : (s pool : List BlockPage) (i at : ℕ) → s ≡ pool → length s ≤ i → behind (take i s) (take_first (drop i s) at) ≡ take_first s at → take_first pool at ≡ None

@@ -2,7 +2,7 @@
 #![tactic(auto)]
 
 ghost use Rattle.std.specs.Prelude.{◌≡◌, ◌<◌, ◌≤◌, ◌+◌, ◌%◌, ℕ, IfOk, IfSome, IfNone, OnOk, OnErr, IfErr, length, [], Some, None, true, take, drop, position, slice_set, slice_index_or};
-ghost use Rattle.page_alloc.specs.Pages.{PageList};
+ghost use Rattle.page_alloc.specs.Pages.{PageList, Whole};
 ghost use Rattle.page_alloc.specs.Calls.{may_be_given, allocation};
 ghost use Rattle.pool_alloc.specs.Blocks.{rounded, pages_for};
 ghost use Rattle.pool_alloc.specs.Calls.{Gives, GivesSurely, on_pages, pool_allocation, pool_freeing};
@@ -147,5 +147,54 @@ impl Pool {
             }
         }
         None
+    }
+
+    /// Takes the block that begins at an address out, and answers its size and, by their start and number, the pages
+    /// that have no block any more. These are no longer in the pool.
+    fn take(&mut self, at: u64) -> Option<(u64, Option<(u64, u64)>)>
+        ensures gives { TakeGives result (take_first self.old at) self.old self.new }
+        ensures back { (m : PageList) → Whole m → Together self.old m → IfSome result (λ taken. BackGives taken.1 self.new m) }
+    {
+        let Some((index, place)) = self.find(at) else {
+            return None;
+        };
+        let page = &mut self.pages[index];
+        let back = (page.start(), page.pages());
+        let size = page.remove(place);
+        if !page.is_empty() {
+            return Some((size, None));
+        }
+        self.pages.remove(index);
+        Some((size, Some(back)))
+    }
+
+    /// Takes the block that begins at an address back, as FreePool does (UEFI 2.10, section 7.2), and answers its size.
+    /// A page without a block is given back. `Invalid` is for an address at which no block begins. It takes no memory.
+    #[tactic(auto, unfolding(crate::specs::Calls::pool_freeing))]
+    pub fn free(&mut self, map: &mut PageMap, at: u64) -> Result<u64, PoolRefusal>
+        requires { Together self.old map.old }
+        ensures gives { GivesSurely result (pool_freeing self.old map.old at) self.old map.old self.new map.new }
+        ensures together { Together self.new map.new }
+    {
+        map.whole();
+        match self.take(at) {
+            None => Err(PoolRefusal::Invalid),
+            Some((size, None)) => Ok(size),
+            Some((size, Some((start, count)))) => match map.free(Owner::Pool, start, count) {
+                Ok(()) => Ok(size),
+                Err(_) => unreachable!(),
+            },
+        }
+    }
+
+    /// An equal pool.
+    pub fn copy(&self) -> Result<Pool, AllocError>
+        ensures { IfOk result (λ pool. pool ≡ self.now) }
+    {
+        let mut pages = Vec::with_capacity(*self.pages.allocator(), self.pages.len())?;
+        for page in &self.pages {
+            pages.push(page.copy()?)?;
+        }
+        Ok(Pool { pages })
     }
 }

@@ -5,4 +5,4 @@ use Rattle.pool_alloc.proofs.pool.Pool.allocate.Goals as goal
 pub returns-in-Ok-clause-gives : goal.returns-in-Ok-clause-gives
 returns-in-Ok-clause-gives c =
     placed_gives c.args.self.now c.put.new.self c.args.map.now c.args.memory_type c.args.size _ c.in-Some.index c.in-Some.offset c.in-Ok.at (sym c.may_be_given.ensures ∙ c.if-not-may_be_given.false) c.if-size-gt-LARGEST.false c.rounded-units.ensures
-      c.in-Some.ensures.some c.in-Ok.ensures.at c.in-Ok.ensures.ok
+    c.in-Some.ensures.some c.in-Ok.ensures.at c.in-Ok.ensures.ok

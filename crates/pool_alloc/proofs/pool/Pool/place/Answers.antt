@@ -1,9 +1,9 @@
 use Rattle.std.proofs.Common.{◌≡◌, ◌∙◌, sym}
-use Rattle.pool_alloc.proofs.PoolLemmas.{read_page, read_can, read_here, read_more, read_none}
+use Rattle.pool_alloc.proofs.PoolLemmas.{read_blocks, read_can, read_here, read_more, read_none}
 use Rattle.pool_alloc.proofs.pool.Pool.place.Goals as goal
 
 pub room-requires-clause-blocks : goal.room-requires-clause-blocks
-room-requires-clause-blocks c = (read_page _ _ c.loop-index.index _ c.deref-page-items.ensures.value c.loop-index-test.true c.page-item.is c.self.invariant).blocks
+room-requires-clause-blocks c = read_blocks _ c.loop-index.index _ c.loop-index-test.true c.page-item.is (rw c.deref-page-items.ensures.value c.self.invariant)
 
 pub returns-in-Some-clause-can : goal.returns-in-Some-clause-can
 returns-in-Some-clause-can c = λ d.

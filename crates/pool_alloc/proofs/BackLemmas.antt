@@ -1,0 +1,78 @@
+-- Pages of the pool that are given back.
+use Rattle.std.proofs.Common.{◌≡◌, ◌≢◌, ℕ, zero, suc, ◌+◌, ◌-◌, ◌*◌, ◌/◌, ◌%◌, ◌^◌, ◌<◌, ◌≤◌, List, [], ◌∷◌, ◌++◌, length, take, drop, get_or, refl, sym, ap, ◌∙◌, arith, Bool, true, false, ◌⊎◌, inl, inr, subst}
+use Rattle.std.specs.Prelude.{Option, Some, None, Ok, Err, remove, position, slice_set}
+use Rattle.std.proofs.lemmas.List.{get_or_default}
+use Rattle.page_alloc.specs.declared.page.Owner.TheVariants.{Pool}
+use Rattle.page_alloc.specs.Pages.{PageList, Whole, changed, conventional, index_of}
+use Rattle.page_alloc.specs.declared.page.PageRefusal.{PageRefusal}
+use Rattle.page_alloc.specs.Calls.{owns, freeing}
+use Rattle.page_alloc.proofs.CallLemmas.{owns_kept, Owns, owns_tells, free_owned}
+use Rattle.pool_alloc.specs.declared.block.Block.{Block}
+use Rattle.pool_alloc.specs.Pool.{BlockPage, Taken, behind, take_first, begins_at, pages_of, AreBlocks, IsPage, Apart, ApartFrom, IsPool, Together, TakeGives, BackGives}
+use Rattle.pool_alloc.proofs.NewPageLemmas.{some_pages}
+use Rattle.pool_alloc.proofs.PoolLemmas.{page_of, read}
+use Rattle.pool_alloc.proofs.RestLemmas.{less, page_kept, page_gone, kept_pool, kept_together}
+
+from_less : (p : BlockPage) (pages : List BlockPage) (i : ℕ) → ApartFrom p pages → ApartFrom p (remove pages i)
+from_less p [] zero all = tt
+from_less p [] (suc i) all = tt
+from_less p (q ∷ qs) zero all = all.1
+from_less p (q ∷ qs) (suc i) all = (all.0, from_less p qs i all.1)
+
+pub pool_less : (pool : List BlockPage) (i : ℕ) → IsPool pool → IsPool (remove pool i)
+pool_less [] zero all = tt
+pool_less [] (suc i) all = tt
+pool_less (p ∷ ps) zero all = all.2
+pool_less (p ∷ ps) (suc i) all = (all.0, from_less p ps i all.1, pool_less ps i all.2)
+
+from_there : (p : BlockPage) (pages : List BlockPage) (i : ℕ) (d : BlockPage) → i < length pages → ApartFrom p pages → Apart p (get_or pages i d)
+from_there p [] i d h all = absurd (omega arith)
+from_there p (q ∷ qs) zero d h all = all.0
+from_there p (q ∷ qs) (suc i) d h all = from_there p qs i d (omega arith) all.1
+
+turned : (p q : BlockPage) → Apart p q → Apart q p
+turned p q (inl h) = inr h
+turned p q (inr h) = inl h
+
+own_there : (pool : List BlockPage) (m : PageList) (i : ℕ) (d : BlockPage) → i < length pool → Together pool m → owns m Pool (get_or pool i d).start (pages_of (get_or pool i d).blocks) ≡ true
+own_there [] m i d h all = absurd (omega arith)
+own_there (p ∷ ps) m zero d h all = all.0
+own_there (p ∷ ps) m (suc i) d h all = own_there ps m i d (omega arith) all.1
+
+-- a page stays the pool's where another one is given back
+module _ (m : PageList) (p : BlockPage) (whole : Whole m) (is_p : IsPage p) (owned_p : owns m Pool p.start (pages_of p.blocks) ≡ true) where
+  stays : (q : BlockPage) → IsPage q → Apart q p → owns m Pool q.start (pages_of q.blocks) ≡ true → owns (changed m p.start (pages_of p.blocks) conventional) Pool q.start (pages_of q.blocks) ≡ true
+  stays q is apart owned =
+      let o = (owns_tells m Pool p.start (pages_of p.blocks)).0 owned_p in
+      let u = (owns_tells m Pool q.start (pages_of q.blocks)).0 owned in
+      let low = o.low in
+      let low' = u.low in
+      let even = whole.ram.on_page in
+      let on = is_p.on_page in
+      let on' = is.on_page in
+      owns_kept m Pool q.start (pages_of q.blocks) p.start (pages_of p.blocks) conventional o.each.inside
+      (elim apart [ inl before ↦ inl (omega (arith, before, low, low', even, on, on')) | inr behind ↦ inr (omega (arith, behind, low, low', even, on, on')) ]) owned
+
+  all_stay : (qs : List BlockPage) → IsPool qs → ApartFrom p qs → Together qs m → Together qs (changed m p.start (pages_of p.blocks) conventional)
+  all_stay [] all apart together = tt
+  all_stay (q ∷ qs) all apart together = (stays q all.0 (turned p q apart.0) together.0, all_stay qs all.2 apart.1 together.1)
+
+  pub rest_stays : (pool : List BlockPage) (i : ℕ) (d : BlockPage) → i < length pool → get_or pool i d ≡ p → IsPool pool → Together pool m → Together (remove pool i) (changed m p.start (pages_of p.blocks) conventional)
+  rest_stays [] i d h e all together = absurd (omega arith)
+  rest_stays (q ∷ qs) zero d h e all together = all_stay qs all.2 (subst (λ x. ApartFrom x qs) e all.1) together.1
+  rest_stays (q ∷ qs) (suc i) d h e all together =
+      (stays q all.0 (subst (λ x. Apart q x) e (from_there q qs i d (omega arith) all.1)) together.0, rest_stays qs i d (omega arith) e all.2 together.1)
+
+pub back_gives : (pool : List BlockPage) (m : PageList) (i : ℕ) (d : BlockPage) → Whole m → i < length pool → IsPool pool → Together pool m
+    → BackGives (Some ((get_or pool i d).start, pages_of (get_or pool i d).blocks)) (remove pool i) m
+back_gives pool m i d whole h all together =
+    let is = page_of pool i d all h in
+    let owned = own_there pool m i d h together in
+    (some_pages (get_or pool i d).blocks is.blocks, is.on_page, owned, rest_stays m (get_or pool i d) whole is owned pool i d h refl all together)
+
+-- what is given back is taken
+pub is_taken : (back : Option (ℕ × ℕ)) (start count : ℕ) (new : List BlockPage) (m : PageList) (refusal : PageRefusal) → back ≡ Some (start, count) → BackGives back new m → Err refusal ≡ freeing m Pool start count → ⊥
+is_taken back start count new m refusal e gives answer =
+    let given : BackGives (Some (start, count)) new m = subst (λ b. BackGives b new m) e gives in
+    let ok = free_owned m Pool start count given.1 given.0 given.2 in
+    cc
