@@ -11,6 +11,8 @@ mod laws;
 mod placing;
 mod reading;
 mod sections;
+#[cfg(test)]
+mod tests;
 
 pub use fault::PeFault;
 pub use fields::{u16_in, u32_in, u64_in};
