@@ -1,1 +1,3 @@
 pub mod ConsoleLemmas
+pub mod FieldLemmas
+pub mod MemoryLemmas

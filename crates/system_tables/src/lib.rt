@@ -2,8 +2,14 @@
 #![tactic(auto)]
 
 mod console;
+mod fields;
+mod memory;
+mod offsets;
+mod tables;
 
 pub use console::console_text;
+pub use fields::Field;
+pub use memory::{build_tables, clear_boot, move_tables};
 
 #[cfg(test)]
 mod tests;
