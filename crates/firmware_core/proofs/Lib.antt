@@ -1,0 +1,3 @@
+pub mod StringLemmas
+pub mod LoadLemmas
+pub mod OpeningLemmas
