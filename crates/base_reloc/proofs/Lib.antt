@@ -3,3 +3,4 @@ pub mod EntryLemmas
 pub mod BlockLemmas
 pub mod SiteLemmas
 pub mod MoveLemmas
+pub mod LawLemmas
