@@ -1,2 +1,3 @@
+pub mod FormLemmas
 pub mod Loops
 pub mod Views

@@ -4,6 +4,7 @@ ghost use Rattle.toml.specs.View.{table_view, items_view};
 ghost use Rattle.host_script.specs.Faults.{Reads};
 ghost use Rattle.host_script.specs.Fields.{seen_items};
 ghost use Rattle.host_script.specs.Script.{not_empty, steps_field, top_of, plain, script_of, script_in};
+ghost use Rattle.host_script.specs.Forms.{ScriptsKeepForms};
 ghost use Rattle.host_script.specs.Seen.{top_seen};
 
 use crate::fault::{ScriptFault, ScriptKind};
@@ -92,3 +93,9 @@ pub fn read_script(alloc: Global, bytes: &[u8]) -> Result<Script, ScriptFault>
         }
     }
 }
+
+/// A law: a script that is read has at most 16 images, each with a name of its own, and 1 to 4,096 steps, each of
+/// an image that it names and within its bounds.
+pub fn scripts_keep_forms()
+    ensures { ScriptsKeepForms }
+{}

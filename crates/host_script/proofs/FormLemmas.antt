@@ -1,0 +1,304 @@
+-- What a script that is read keeps: what each part of the reading asked for.
+use Rattle.std.proofs.Common.{◌≡◌, ℕ, ◌+◌, ◌≤◌, Bool, true, false, ◌&&◌, nat_lt, nat_le, List, [], ◌∷◌, ◌++◌, length, codes, Option, Some, None, Result, Ok, Err, refl, sym, ap, ◌∙◌, append_assoc, arith, subst}
+use Rattle.std.specs.Prelude.{if◌then◌else◌, ◌==◌, unwrap_or, pos, negsuc}
+use Rattle.std.specs.Str.{bytes_eq, is_utf8}
+use Rattle.std.proofs.lemmas.Bool.Decides.{nat_tests}
+use Rattle.std.proofs.lemmas.List.{append-nil}
+use Rattle.toml.specs.Data.{Data, integer, Items, no_items, item, Members, get_member, as_table}
+use Rattle.toml.specs.Parse.{parse_document}
+use Rattle.uh_base.specs.Names.{is_name}
+use Rattle.host_script.specs.Faults.{◌>>=◌, Place, placed}
+use Rattle.host_script.specs.Fields.{only_keys, text_field, integer_in, integer_field, tables_field, items_len, counted, needed}
+use Rattle.host_script.specs.Script.{has_image, table_of, Top, not_empty, steps_field, top_of, new_name, origin_of, image_of, image_at, images_of, known_name, step_image, or_million, bound_of, load_of, start_of, step_by, step_of, step_at, steps_of, Plain, with_steps, script_of, of_document, script_in}
+use Rattle.host_script.specs.Forms.{AreImages, IsStep, AreSteps, IsScript, ScriptsKeepForms}
+use Rattle.host_script.specs.declared.fault.ScriptKind.{ScriptKind}
+use Rattle.host_script.specs.declared.fault.ScriptKind.TheVariants as kinds
+use Rattle.host_script.specs.declared.script.Origin.{Origin}
+use Rattle.host_script.specs.declared.script.ImageSpec.{ImageSpec}
+use Rattle.host_script.specs.declared.script.Step.{Step}
+use Rattle.host_script.specs.declared.script.Step.TheVariants.{Load, Start}
+
+-- ---- a chain that ends well has no fault on its way
+
+pub record Went {A B : Type 0} (r : Result A ScriptKind) (f : A → Result B ScriptKind) (y : B) : Type 0 where
+  x : A
+  first : r ≡ Ok x
+  then_ : f x ≡ Ok y
+
+went : {A B : Type 0} (r : Result A ScriptKind) (f : A → Result B ScriptKind) (y : B) → (r >>= f) ≡ Ok y → Went r f y
+went (Ok x) f y h = record { x = x; first = refl; then_ = h }
+went (Err e) f y h = cc
+
+pub record WentOn {A B : Type 0} (n : ℕ) (r : Result A ScriptKind) (f : A → Result B Place) (y : B) : Type 0 where
+  x : A
+  first : r ≡ Ok x
+  then_ : f x ≡ Ok y
+
+went_on : {A B : Type 0} (n : ℕ) (r : Result A ScriptKind) (f : A → Result B Place) (y : B) → placed n r f ≡ Ok y → WentOn n r f y
+went_on n (Ok x) f y h = record { x = x; first = refl; then_ = h }
+went_on n (Err e) f y h = cc
+
+-- ---- tests
+
+checked : {A : Type 0} (b : Bool) (x y : A) (e : ScriptKind) → (if b then Ok x else Err e) ≡ Ok y → (b ≡ true) × (x ≡ y)
+checked true x y e h = (refl, cc)
+checked false x y e h = cc
+
+refused : {A : Type 0} (b : Bool) (x y : A) (e : ScriptKind) → (if b then Err e else Ok x) ≡ Ok y → (b ≡ false) × (x ≡ y)
+refused true x y e h = cc
+refused false x y e h = (refl, cc)
+
+new_names : (before : List ImageSpec) (name kept : List ℕ) → new_name before name ≡ Ok kept → (is_name kept ≡ true) × (has_image before kept ≡ false)
+new_names before name kept h = by (is_name name) refl (has_image before name) refl h
+  where
+    by : (b : Bool) → is_name name ≡ b → (c : Bool) → has_image before name ≡ c → (if b then (if c then Err kinds.Name else Ok name) else Err kinds.Value) ≡ Ok kept → (is_name kept ≡ true) × (has_image before kept ≡ false)
+    by true p true q h = cc
+    by true p false q h = let e : name ≡ kept = cc in (sym (ap is_name e) ∙ p, sym (ap (has_image before) e) ∙ q)
+    by false p c q h = cc
+
+known_names : (images : List ImageSpec) (name kept : List ℕ) → known_name images name ≡ Ok kept → has_image images kept ≡ true
+known_names images name kept h = by (is_name name) refl (has_image images name) refl h
+  where
+    by : (b : Bool) → is_name name ≡ b → (c : Bool) → has_image images name ≡ c → (if b then (if c then Ok name else Err kinds.Name) else Err kinds.Value) ≡ Ok kept → has_image images kept ≡ true
+    by true p true q h = let e : name ≡ kept = cc in sym (ap (has_image images) e) ∙ q
+    by true p false q h = cc
+    by false p c q h = cc
+
+-- ---- lists with a count
+
+few_kept : (most : ℕ) (items kept : Items) → counted most items ≡ Ok kept → (items ≡ kept) × (items_len kept ≤ most)
+unfolding counted
+few_kept most items kept h =
+    let p = refused (nat_lt most (items_len items)) items kept kinds.Count h in
+    let test : nat_lt most (items_len items) ≡ false = p.0 in
+    let few : items_len items ≤ most = grind (arith, nat_tests, test) in
+    let same : items ≡ kept = p.1 in
+    (same, rw (← same) few)
+
+some_kept : (items kept : Items) → not_empty items ≡ Ok kept → (items ≡ kept) × (1 ≤ items_len kept)
+some_kept items kept h =
+    let p = refused (items_len items == 0) items kept kinds.Missing h in
+    let test : (items_len items == 0) ≡ false = p.0 in
+    let some : 1 ≤ items_len items = grind (arith, nat_tests, test) in
+    let same : items ≡ kept = p.1 in
+    (same, rw (← same) some)
+
+-- ---- images
+
+record ReadsImage (before : List ImageSpec) (image : ImageSpec) : Type 0 where
+  named : is_name image.name ≡ true
+  new : has_image before image.name ≡ false
+
+abbrev with_origin : List ℕ → Members → Origin → Result ImageSpec ScriptKind
+with_origin name table origin = Ok (record { name = name; origin = origin })
+
+abbrev with_name : Members → List ℕ → Result ImageSpec ScriptKind
+with_name table name = origin_of table >>= with_origin name table
+
+name_kept : (table : Members) (name : List ℕ) (origin : Origin) (image : ImageSpec) → with_origin name table origin ≡ Ok image → name ≡ image.name
+name_kept table name origin image h = let made : ImageSpec = record { name = name; origin = origin } in let e : made ≡ image = cc in ap (λ (i : ImageSpec). i.name) e
+
+image_read : (before : List ImageSpec) (table : Members) (image : ImageSpec) → image_of before table ≡ Ok image → ReadsImage before image
+unfolding image_of
+image_read before table image h =
+    let named : Result (List ℕ) ScriptKind = needed (text_field (codes "name") table) >>= new_name before in
+    let keys = went (only_keys (codes "name" ∷ codes "file" ∷ []) table) (λ _. named >>= with_name table) image h in
+    let name = went named (with_name table) image keys.then_ in
+    let origin = went (origin_of table) (with_origin name.x table) image name.then_ in
+    let text = went (needed (text_field (codes "name") table)) (new_name before) name.x name.first in
+    let forms = new_names before text.x name.x text.then_ in
+    let same : name.x ≡ image.name = name_kept table name.x origin.x image origin.then_ in
+    record { named = rw (← same) forms.0; new = rw (← same) forms.1 }
+
+image_read_at : (before : List ImageSpec) (content : Data) (image : ImageSpec) → image_at before content ≡ Ok image → ReadsImage before image
+unfolding image_at
+image_read_at before content image h = let p = went (table_of (as_table content)) (image_of before) image h in image_read before p.x image p.then_
+
+-- the images that were read, behind those before them
+record ReadImages (before images : List ImageSpec) (count : ℕ) : Type 0 where
+  added : List ImageSpec
+  same : images ≡ before ++ added
+  keep : AreImages before added
+  long : length added ≡ count
+
+images_read : (before : List ImageSpec) (items : Items) (images : List ImageSpec) → images_of before items ≡ Ok images → ReadImages before images (items_len items)
+unfolding images_of
+images_read before no_items images h = let e : before ≡ images = cc in record { added = []; same = sym e ∙ sym (append-nil before); keep = tt; long = refl }
+images_read before (item content items) images h =
+    let p = went (image_at before content) (λ image. images_of (before ++ image ∷ []) items) images h in
+    let first = image_read_at before content p.x p.first in
+    let rest = images_read (before ++ p.x ∷ []) items images p.then_ in
+    record {
+      added = p.x ∷ rest.added;
+      same = rest.same ∙ append_assoc before (p.x ∷ []) rest.added;
+      keep = (first.named, first.new, rest.keep);
+      long = omega (arith, rest.long);
+    }
+
+-- ---- steps
+
+image_known : (images : List ImageSpec) (table : Members) (name : List ℕ) → step_image images table ≡ Ok name → has_image images name ≡ true
+unfolding step_image
+image_known images table name h =
+    let p = went (needed (text_field (codes "image") table)) (known_name images) name h in known_names images p.x name p.then_
+
+abbrev InRange : Option ℕ → Type 0
+InRange bound = (1 ≤ unwrap_or bound 1000000) × (unwrap_or bound 1000000 ≤ 50000000)
+
+in_range : (n : ℕ) (bound : Option ℕ) → (if nat_le 1 n && nat_le n 50000000 then Ok (Some n) else Err kinds.Value) ≡ Ok bound → InRange bound
+in_range n bound h =
+    let p = checked (nat_le 1 n && nat_le n 50000000) (Some n) bound kinds.Value h in
+    let same : Some n ≡ bound = p.1 in
+    let test : (nat_le 1 n && nat_le n 50000000) ≡ true = p.0 in
+    let low : 1 ≤ n = grind (arith, nat_tests, test) in
+    let high : n ≤ 50000000 = grind (arith, nat_tests, test) in
+    subst InRange same (low, high)
+
+integer_range : (content : Option Data) (bound : Option ℕ) → integer_in 1 50000000 content ≡ Ok bound → InRange bound
+integer_range None bound h = let same : None ≡ bound = cc in subst InRange same (omega arith, omega arith)
+integer_range (Some (integer (pos n))) bound h = in_range n bound h
+integer_range (Some (integer (negsuc n))) bound h = cc
+integer_range (Some other) bound h = cc
+
+bound_read : (table : Members) (bound : ℕ) → bound_of table ≡ Ok bound → (1 ≤ bound) × (bound ≤ 50000000)
+unfolding bound_of integer_field
+bound_read table bound h =
+    let p = went (integer_in 1 50000000 (get_member (codes "bound") table)) or_million bound h in
+    let same : unwrap_or p.x 1000000 ≡ bound = cc in
+    let range = integer_range (get_member (codes "bound") table) p.x p.first in
+    rw (← same) range
+
+abbrev with_image : List ℕ → Result Step ScriptKind
+with_image image = Ok (Load image)
+
+load_read : (images : List ImageSpec) (table : Members) (step : Step) → load_of images table ≡ Ok step → IsStep images step
+unfolding load_of
+load_read images table step h =
+    let keys = went (only_keys (codes "do" ∷ codes "image" ∷ []) table) (λ _. step_image images table >>= with_image) step h in
+    let image = went (step_image images table) with_image step keys.then_ in
+    let same : Load image.x ≡ step = cc in
+    subst (IsStep images) same (image_known images table image.x image.first)
+
+abbrev with_bound : List ℕ → ℕ → Result Step ScriptKind
+with_bound image bound = Ok (Start image bound)
+
+start_read : (images : List ImageSpec) (table : Members) (step : Step) → start_of images table ≡ Ok step → IsStep images step
+unfolding start_of
+start_read images table step h =
+    let keys = went (only_keys (codes "do" ∷ codes "image" ∷ codes "bound" ∷ []) table) (λ _. step_image images table >>= λ image. bound_of table >>= with_bound image) step h in
+    let image = went (step_image images table) (λ image. bound_of table >>= with_bound image) step keys.then_ in
+    let bound = went (bound_of table) (with_bound image.x) step image.then_ in
+    let same : Start image.x bound.x ≡ step = cc in
+    let range = bound_read table bound.x bound.first in
+    subst (IsStep images) same (image_known images table image.x image.first, range.0, range.1)
+
+by_read : (word : List ℕ) (images : List ImageSpec) (table : Members) (step : Step) → step_by word images table ≡ Ok step → IsStep images step
+unfolding step_by
+by_read word images table step h = by (bytes_eq word (codes "load")) (bytes_eq word (codes "start")) h
+  where
+    by : (loads starts : Bool) → (if loads then load_of images table else (if starts then start_of images table else Err kinds.Value)) ≡ Ok step → IsStep images step
+    by true starts h = load_read images table step h
+    by false true h = start_read images table step h
+    by false false h = cc
+
+step_read_at : (images : List ImageSpec) (content : Data) (step : Step) → step_at images content ≡ Ok step → IsStep images step
+unfolding step_at step_of
+step_read_at images content step h =
+    let table = went (table_of (as_table content)) (step_of images) step h in
+    let word = went (needed (text_field (codes "do") table.x)) (λ word. step_by word images table.x) step table.then_ in
+    by_read word.x images table.x step word.then_
+
+record ReadSteps (images : List ImageSpec) (before steps : List Step) (count : ℕ) : Type 0 where
+  added : List Step
+  same : steps ≡ before ++ added
+  keep : AreSteps images added
+  long : length added ≡ count
+
+steps_read : (images : List ImageSpec) (before : List Step) (items : Items) (steps : List Step) → steps_of images before items ≡ Ok steps → ReadSteps images before steps (items_len items)
+unfolding steps_of
+steps_read images before no_items steps h = let e : before ≡ steps = cc in record { added = []; same = sym e ∙ sym (append-nil before); keep = tt; long = refl }
+steps_read images before (item content items) steps h =
+    let p = went_on (length before + 1) (step_at images content) (λ step. steps_of images (before ++ step ∷ []) items) steps h in
+    let first = step_read_at images content p.x p.first in
+    let rest = steps_read images (before ++ p.x ∷ []) items steps p.then_ in
+    record {
+      added = p.x ∷ rest.added;
+      same = rest.same ∙ append_assoc before (p.x ∷ []) rest.added;
+      keep = (first, rest.keep);
+      long = omega (arith, rest.long);
+    }
+
+-- ---- the whole
+
+record ReadsTop (top : Top) : Type 0 where
+  few_images : items_len top.images ≤ 16
+  some_steps : 1 ≤ items_len top.steps
+  few_steps : items_len top.steps ≤ 4096
+
+steps_counted : (table : Members) (steps : Items) → steps_field table ≡ Ok steps → (1 ≤ items_len steps) × (items_len steps ≤ 4096)
+unfolding steps_field
+steps_counted table steps h =
+    let all = went (tables_field (codes "step") table >>= not_empty) (counted 4096) steps h in
+    let some = went (tables_field (codes "step") table) not_empty all.x all.first in
+    let few = few_kept 4096 all.x steps all.then_ in
+    let one = some_kept some.x all.x some.then_ in
+    let same : all.x ≡ steps = few.0 in
+    (rw (← same) one.1, few.1)
+
+abbrev with_both : Items → Items → Result Top ScriptKind
+with_both images steps = Ok (record { images = images; steps = steps })
+
+top_read : (table : Members) (top : Top) → top_of table ≡ Ok top → ReadsTop top
+unfolding top_of
+top_read table top h =
+    let listed : Result Items ScriptKind = tables_field (codes "image") table >>= counted 16 in
+    let keys = went (only_keys (codes "image" ∷ codes "step" ∷ []) table) (λ _. listed >>= λ images. steps_field table >>= with_both images) top h in
+    let images = went listed (λ images. steps_field table >>= with_both images) top keys.then_ in
+    let steps = went (steps_field table) (with_both images.x) top images.then_ in
+    let all = went (tables_field (codes "image") table) (counted 16) images.x images.first in
+    let few = few_kept 16 all.x images.x all.then_ in
+    let count = steps_counted table steps.x steps.first in
+    let made : Top = record { images = images.x; steps = steps.x } in
+    let same : made ≡ top = cc in
+    subst ReadsTop same (record { few_images = few.1; some_steps = count.0; few_steps = count.1 })
+
+record WithSteps (images : List ImageSpec) (r : Result (List Step) Place) (script : Plain) : Type 0 where
+  steps : List Step
+  first : r ≡ Ok steps
+  same : record { image = images; step = steps } ≡ script
+
+with_all : (images : List ImageSpec) (r : Result (List Step) Place) (script : Plain) → with_steps images r ≡ Ok script → WithSteps images r script
+with_all images (Ok steps) script h = record { steps = steps; first = refl; same = cc }
+with_all images (Err e) script h = cc
+
+document_read : (table : Members) (script : Plain) → script_of table ≡ Ok script → IsScript script
+unfolding script_of
+document_read table script h =
+    let rest : Top → Result Plain Place = λ top. placed 0 (images_of [] top.images) (λ images. with_steps images (steps_of images [] top.steps)) in
+    let top = went_on 0 (top_of table) rest script h in
+    let images = went_on 0 (images_of [] top.x.images) (λ images. with_steps images (steps_of images [] top.x.steps)) script top.then_ in
+    let all = with_all images.x (steps_of images.x [] top.x.steps) script images.then_ in
+    let counts = top_read table top.x top.first in
+    let read = images_read [] top.x.images images.x images.first in
+    let ran = steps_read images.x [] top.x.steps all.steps all.first in
+    let same_images : images.x ≡ read.added = read.same in
+    let same_steps : all.steps ≡ ran.added = ran.same in
+    subst IsScript all.same (record {
+      few_images = omega (arith, ap length same_images, read.long, counts.few_images);
+      images = rw same_images read.keep;
+      some_steps = omega (arith, ap length same_steps, ran.long, counts.some_steps);
+      few_steps = omega (arith, ap length same_steps, ran.long, counts.few_steps);
+      steps = subst (AreSteps images.x) (sym same_steps) ran.keep;
+    })
+
+of_read : (document : Option Members) (script : Plain) → of_document document ≡ Ok script → IsScript script
+of_read None script h = cc
+of_read (Some table) script h = document_read table script h
+
+pub keeps_forms : ScriptsKeepForms
+unfolding script_in
+keeps_forms bytes script h = by (is_utf8 bytes) h
+  where
+    by : (text : Bool) → (if text then of_document (parse_document bytes) else Err (0, kinds.Text)) ≡ Ok script → IsScript script
+    by true h = of_read (parse_document bytes) script h
+    by false h = cc

@@ -1,0 +1,33 @@
+-- What every script that is read keeps, whatever document says it.
+use Rattle.std.specs.Prelude.{◌≡◌, ◌≤◌, ◌++◌, ℕ, List, [], ◌∷◌, length, true, false, Ok}
+use Rattle.uh_base.specs.Names.{is_name}
+use Rattle.host_script.specs.declared.script.ImageSpec.{ImageSpec}
+use Rattle.host_script.specs.declared.script.Step.{Step}
+use Rattle.host_script.specs.declared.script.Step.TheVariants.{Load, Start}
+use Rattle.host_script.specs.Script.{Plain, has_image, script_in}
+
+-- Each image has a name, which none before it has.
+abbrev pub AreImages : List ImageSpec → List ImageSpec → Type 0
+AreImages before [] = Unit {0}
+AreImages before (image ∷ images) = (is_name image.name ≡ true) × (has_image before image.name ≡ false) × AreImages (before ++ image ∷ []) images
+
+-- A step names an image, and may run 1 to 50,000,000 steps.
+abbrev pub IsStep : List ImageSpec → Step → Type 0
+IsStep images (Load image) = has_image images image ≡ true
+IsStep images (Start image bound) = (has_image images image ≡ true) × (1 ≤ bound) × (bound ≤ 50000000)
+
+abbrev pub AreSteps : List ImageSpec → List Step → Type 0
+AreSteps images [] = Unit {0}
+AreSteps images (step ∷ steps) = IsStep images step × AreSteps images steps
+
+-- a script that there is
+pub record IsScript (script : Plain) : Type 0 where
+  pub few_images : length script.image ≤ 16
+  pub images : AreImages [] script.image
+  pub some_steps : 1 ≤ length script.step
+  pub few_steps : length script.step ≤ 4096
+  pub steps : AreSteps script.image script.step
+
+-- Every script that is read keeps the forms.
+abbrev pub ScriptsKeepForms : Type 0
+ScriptsKeepForms = (bytes : List ℕ) (script : Plain) → script_in bytes ≡ Ok script → IsScript script
