@@ -3,6 +3,8 @@
 
 mod descriptor;
 mod map;
+#[cfg(test)]
+mod tests;
 mod write;
 
 pub use descriptor::{Descriptor, TooSmall};

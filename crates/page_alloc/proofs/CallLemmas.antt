@@ -1,14 +1,12 @@
 -- What a change of pages leaves at each page, and whose pages are whose behind it.
-use Rattle.std.proofs.Common.{◌≡◌, ◌≢◌, ℕ, ◌+◌, ◌-◌, ◌*◌, ◌/◌, ◌%◌, ◌^◌, ◌<◌, ◌≤◌, List, length, take, drop, get_or, replicate, ◌++◌, refl, sym, ap, ◌∙◌, arith, Bool, true, false, min, ◌⊎◌, inl, inr, length-append, length-take, subst}
-use Rattle.std.specs.Prelude.{◌&&◌, ◌==◌, nat_le, nat_lt, Option, Some, None, Result, Ok, Err, if◌then◌else◌}
+use Rattle.std.proofs.Common.{◌≡◌, ℕ, ◌+◌, ◌-◌, ◌*◌, ◌%◌, ◌^◌, ◌<◌, ◌≤◌, List, length, take, drop, get_or, replicate, ◌++◌, refl, ap, ◌∙◌, arith, Bool, true, false, min, ◌⊎◌, inl, inr, length-append, subst}
+use Rattle.std.specs.Prelude.{◌&&◌, ◌==◌, nat_le, nat_lt, Option, Some, None, Ok, Err, if◌then◌else◌}
 use Rattle.std.proofs.lemmas.Bool.Decides.{nat_tests, leb_tells, Decides-eqb}
 use Rattle.std.proofs.lemmas.List.{get_or_append_left, get_or-append_right, get_or-take, get_or-drop, get_or-replicate, length-replicate, length-take-le}
 use Rattle.std.specs.Bool.{Decides}
-use Rattle.std.specs.List.{All}
 use Rattle.page_alloc.specs.declared.page.Owner.{Owner}
-use Rattle.page_alloc.specs.declared.page.Owner.TheVariants.{Free, Firmware, Pages, Pool, Image}
+use Rattle.page_alloc.specs.declared.page.Owner.TheVariants.{Free}
 use Rattle.page_alloc.specs.declared.page.Page.{Page}
-use Rattle.page_alloc.specs.declared.page.PageRefusal.{PageRefusal}
 use Rattle.page_alloc.specs.declared.page.PageRefusal.TheVariants.{Invalid, NotFound, NoPages}
 use Rattle.page_alloc.specs.Pages.{PageList, Whole, IsNobodys, all_from, with_pages, changed, index_of, is_conventional, conventional}
 use Rattle.page_alloc.specs.Fit.{fit}

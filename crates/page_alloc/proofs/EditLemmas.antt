@@ -1,12 +1,12 @@
 -- Runs that are parted, joined and replaced.
-use Rattle.std.proofs.Common.{◌≡◌, ◌≢◌, ℕ, zero, suc, ◌+◌, ◌-◌, ◌*◌, ◌<◌, ◌≤◌, List, [], ◌∷◌, ◌++◌, length, replicate, take, drop, get_or, refl, sym, ap, ◌∙◌, arith, length-append, length-take, length-drop, add-one, subst}
+use Rattle.std.proofs.Common.{◌≡◌, ℕ, zero, suc, ◌+◌, ◌-◌, ◌<◌, ◌≤◌, List, [], ◌∷◌, ◌++◌, length, replicate, take, drop, get_or, sym, ap, ◌∙◌, arith, length-append, add-one}
 use Rattle.std.specs.Prelude.{slice_set, insert, remove}
-use Rattle.std.proofs.lemmas.List.{drop_more, take-append-drop, append_assoc, append-nil, take_more, take_more_set, drop-set-lt, set_at, take_at, drop_at, length-replicate, replicate-append-replicate, length-take-le}
+use Rattle.std.proofs.lemmas.List.{drop_more, take-append-drop, append_assoc, take_more, take_more_set, drop-set-lt, set_at, take_at, drop_at, length-replicate, replicate-append-replicate, length-take-le}
 use Rattle.page_alloc.specs.declared.page.Page.{Page}
 use Rattle.page_alloc.specs.declared.runs.Run.{Run}
 use Rattle.page_alloc.specs.Runs.{all_pages, NoneEmpty}
 use Rattle.page_alloc.specs.Pages.{with_pages}
-use Rattle.page_alloc.proofs.RunLemmas.{pages-append, pages_from, one_run, not_empty}
+use Rattle.page_alloc.proofs.RunLemmas.{pages-append, pages_from}
 
 -- runs that aren't empty
 pub none_append : (xs ys : List Run) → NoneEmpty xs → NoneEmpty ys → NoneEmpty (xs ++ ys)

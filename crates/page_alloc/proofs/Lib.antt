@@ -8,3 +8,4 @@ pub mod OwnedLemmas
 pub mod SplitLemmas
 pub mod SamePage
 pub mod CallLemmas
+pub mod LawLemmas

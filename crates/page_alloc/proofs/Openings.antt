@@ -1,13 +1,13 @@
 -- The pages at opening are a whole list.
-use Rattle.std.proofs.Common.{◌≡◌, ℕ, ◌+◌, ◌-◌, ◌*◌, ◌/◌, ◌<◌, ◌≤◌, List, length, replicate, ◌++◌, refl, arith, length-append, ap, sym, ◌∙◌, subst}
+use Rattle.std.proofs.Common.{◌≡◌, ℕ, ◌-◌, ◌/◌, ◌<◌, List, length, replicate, ◌++◌, refl, arith, length-append, ap, ◌∙◌}
 use Rattle.std.proofs.lemmas.List.{length-replicate}
 use Rattle.std.proofs.lemmas.List.Elements.{All-append, All-replicate}
 use Rattle.std.specs.List.{All}
 use Rattle.page_alloc.specs.declared.layout.Layout.{Layout}
 use Rattle.page_alloc.specs.declared.page.Page.{Page}
-use Rattle.page_alloc.specs.Layout.{IsLayout, IsRam, layout_at, end_of}
+use Rattle.page_alloc.specs.Layout.{IsLayout, IsRam, layout_at}
 use Rattle.page_alloc.specs.Pages.{Whole, IsNobodys, conventional}
-use Rattle.page_alloc.specs.Opening.{opening_pages, at_opening, firmware, pages_between}
+use Rattle.page_alloc.specs.Opening.{opening_pages, at_opening, firmware}
 
 length_at : (base pages : ℕ) → IsRam base pages → length (opening_pages (layout_at base pages)) ≡ pages
 unfolding opening_pages layout_at

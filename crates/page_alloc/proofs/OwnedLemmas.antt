@@ -1,14 +1,14 @@
 -- Pages in a row that are one owner's.
-use Rattle.std.proofs.Common.{◌≡◌, ◌≢◌, ℕ, ◌+◌, ◌-◌, ◌<◌, ◌≤◌, List, [], ◌++◌, length, replicate, drop, get_or, refl, sym, ap, ◌∙◌, arith, Bool, true, false, ◌⊎◌, inl, inr, length-drop}
+use Rattle.std.proofs.Common.{◌≡◌, ℕ, ◌+◌, ◌<◌, ◌≤◌, List, [], ◌++◌, length, replicate, drop, get_or, refl, sym, ap, ◌∙◌, arith, Bool, true, false, inl, inr, length-drop}
 use Rattle.std.specs.Prelude.{nat_le}
 use Rattle.std.proofs.lemmas.Bool.Decides.{nat_tests, leb_tells}
 use Rattle.page_alloc.specs.declared.page.Page.{Page}
 use Rattle.page_alloc.specs.declared.page.Owner.{Owner}
 use Rattle.page_alloc.specs.Pages.{all_from}
 use Rattle.page_alloc.specs.Calls.{is_same_owner}
-use Rattle.page_alloc.proofs.PageLemmas.{Passes, all_from_tells}
+use Rattle.page_alloc.proofs.PageLemmas.{all_from_tells}
 use Rattle.page_alloc.proofs.FitLemmas.{tells}
-use Rattle.page_alloc.proofs.ScanLemmas.{here, end_inside}
+use Rattle.page_alloc.proofs.ScanLemmas.{here}
 
 abbrev pub Seen : List Page → Owner → ℕ → ℕ → ℕ → Type 0
 Seen pages owner index stop end = (k : ℕ) (d : Page) → index ≤ k → k < stop → k < end → is_same_owner (get_or pages k d).owner owner ≡ true

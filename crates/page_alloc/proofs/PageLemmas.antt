@@ -1,15 +1,14 @@
 -- Tests of pages in a row.
-use Rattle.std.proofs.Common.{◌≡◌, ℕ, zero, suc, ◌+◌, ◌-◌, ◌*◌, ◌<◌, ◌≤◌, List, length, take, drop, get_or, refl, sym, ap, ◌∙◌, arith, Bool, true, false, length-drop, length-take, length-append, min, replicate, ◌++◌}
-use Rattle.std.specs.Prelude.{◌&&◌, nat_le, Option, Some, None}
+use Rattle.std.proofs.Common.{◌≡◌, ℕ, ◌+◌, ◌-◌, ◌<◌, ◌≤◌, List, length, take, drop, get_or, refl, sym, ap, ◌∙◌, arith, Bool, true, false, length-drop, length-take, length-append, replicate, ◌++◌}
+use Rattle.std.specs.Prelude.{◌&&◌, nat_le}
 use Rattle.std.specs.Bool.{Decides}
-use Rattle.std.specs.List.{list_all, All, AllPass, AllWithin}
-use Rattle.std.proofs.lemmas.Bool.Decides.{nat_tests, Decides-and, leb_tells, same_from_decides, Decides-like}
-use Rattle.std.proofs.lemmas.List.{get_or-take, get_or-drop, get_or_default, length-replicate}
+use Rattle.std.specs.List.{list_all, All, AllPass}
+use Rattle.std.proofs.lemmas.Bool.Decides.{nat_tests}
+use Rattle.std.proofs.lemmas.List.{get_or-take, get_or-drop, length-replicate}
 use Rattle.std.proofs.lemmas.List.Elements.{All-append, All-replicate, All-take, All-drop}
 use Rattle.std.proofs.lemmas.List.Sums.{AllPass-from_list_all, list_all-from_AllPass}
 use Rattle.page_alloc.specs.declared.page.Page.{Page}
-use Rattle.page_alloc.specs.Pages.{PageList, Whole, IsNobodys, all_from, with_pages, next_key}
-use Rattle.page_alloc.specs.Fit.{greatest, IsGreatest}
+use Rattle.page_alloc.specs.Pages.{Whole, IsNobodys, all_from, with_pages, next_key}
 
 -- so many pages from a start on are there, and each passes the test
 pub record Passes (test : Page → Bool) (pages : List Page) (start count : ℕ) : Type 0 where
@@ -40,7 +39,8 @@ and_true false b h = absurd (cc)
 pub all_from_tells : (test : Page → Bool) (pages : List Page) (start count : ℕ) → Decides (all_from test pages start count) (Passes test pages start count)
 unfolding all_from
 all_from_tells test pages start count = (
-  λ h. let p = and_true _ _ h in
+  λ h. let p = and_true (nat_le (start + count) (length pages)) (list_all test (take count (drop start pages))) h in
+      let q : nat_le (start + count) (length pages) ≡ true = p.0 in
       let inside : start + count ≤ length pages = grind (arith, nat_tests) in
       record { inside = inside; each = within test pages start count inside (AllPass-from_list_all test (take count (drop start pages)) p.1) },
   λ h. let i = h.inside in let e : nat_le (start + count) (length pages) ≡ true = grind (arith, nat_tests) in

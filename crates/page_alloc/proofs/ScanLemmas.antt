@@ -1,14 +1,12 @@
 -- The scan for the highest room, from the lowest run on.
-use Rattle.std.proofs.Common.{◌≡◌, ◌≢◌, ℕ, zero, suc, ◌+◌, ◌-◌, ◌*◌, ◌<◌, ◌≤◌, List, [], ◌∷◌, ◌++◌, length, drop, get_or, replicate, refl, sym, ap, ◌∙◌, arith, Bool, true, false, cond, min, ◌⊎◌, inl, inr, length-append, length-drop}
-use Rattle.std.specs.Prelude.{◌&&◌, ◌==◌, nat_le, Option, Some, None, if◌then◌else◌}
+use Rattle.std.proofs.Common.{◌≡◌, ℕ, ◌+◌, ◌-◌, ◌<◌, ◌≤◌, List, [], ◌++◌, length, drop, get_or, replicate, refl, sym, ap, ◌∙◌, arith, Bool, true, false, min, inl, inr, length-append, length-drop}
+use Rattle.std.specs.Prelude.{nat_le, Option, Some, None, if◌then◌else◌}
 use Rattle.std.specs.Option.{option_or}
 use Rattle.std.specs.Bool.{Decides}
-use Rattle.std.proofs.lemmas.Bool.Decides.{nat_tests, leb_tells, eqb_tells}
-use Rattle.std.proofs.lemmas.List.{get_or-drop, get_or_append_left, get_or-replicate, length-replicate, drop-drop, drop_at}
+use Rattle.std.proofs.lemmas.Bool.Decides.{nat_tests, leb_tells}
+use Rattle.std.proofs.lemmas.List.{get_or-drop, get_or_append_left, get_or-replicate, length-replicate}
 use Rattle.page_alloc.specs.declared.page.Page.{Page}
-use Rattle.page_alloc.specs.declared.runs.Run.{Run}
-use Rattle.page_alloc.specs.Runs.{all_pages, NoneEmpty}
-use Rattle.page_alloc.specs.Pages.{all_from, is_conventional, conventional}
+use Rattle.page_alloc.specs.Pages.{is_conventional}
 use Rattle.page_alloc.specs.Fit.{IsGreatest, is_room}
 use Rattle.page_alloc.proofs.PageLemmas.{Passes, all_from_tells, and_true}
 use Rattle.page_alloc.proofs.FitLemmas.{tells}

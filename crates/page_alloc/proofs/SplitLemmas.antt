@@ -1,16 +1,15 @@
 -- What is left where a run is parted, joined or replaced.
-use Rattle.std.proofs.Common.{◌≡◌, ◌≢◌, ℕ, zero, suc, ◌+◌, ◌-◌, ◌*◌, ◌^◌, ◌<◌, ◌≤◌, List, [], ◌∷◌, ◌++◌, length, replicate, take, drop, get_or, refl, sym, ap, ◌∙◌, arith, length-append, length-take, length-drop, subst}
-use Rattle.std.specs.Prelude.{slice_set, insert, remove, nat_le}
+use Rattle.std.proofs.Common.{◌≡◌, ◌≢◌, ℕ, ◌+◌, ◌-◌, ◌<◌, ◌≤◌, List, [], ◌∷◌, ◌++◌, length, take, drop, get_or, sym, ap, ◌∙◌, arith, length-append, subst}
+use Rattle.std.specs.Prelude.{slice_set, insert, remove}
 use Rattle.std.proofs.lemmas.Bool.Decides.{leb_tells}
-use Rattle.std.proofs.Common.{◌⊎◌, inl, inr}
+use Rattle.std.proofs.Common.{inl, inr}
 use Rattle.std.proofs.lemmas.List.{append_assoc, take_at, length-replicate, length-take-le, take-append-le, take-take, get_or_default}
-use Rattle.std.proofs.lemmas.List.Edits.{get_or-remove_below}
 use Rattle.page_alloc.specs.declared.page.Page.{Page}
 use Rattle.page_alloc.specs.declared.runs.Run.{Run}
 use Rattle.page_alloc.specs.Runs.{all_pages, NoneEmpty}
 use Rattle.page_alloc.specs.Pages.{with_pages}
 use Rattle.page_alloc.proofs.RunLemmas.{pages-append, one_run, not_empty, before_more}
-use Rattle.page_alloc.proofs.EditLemmas.{around, parts, parted_is, parted_pages, parted_none, joined_is, joined_pages, joined_none, replaced_is, replaced_pages, replaced_none, before_grows, fewer_runs}
+use Rattle.page_alloc.proofs.EditLemmas.{parts, parted_is, parted_pages, parted_none, joined_is, joined_pages, joined_none, replaced_is, replaced_pages, replaced_none, before_grows, fewer_runs}
 
 -- a run that is read at a place is the one there at any default
 pub read : (xs : List Run) (i : ℕ) (run d : Run) → i < length xs → run ≡ get_or xs i run → run ≡ get_or xs i d

@@ -1,8 +1,7 @@
 -- What AllocatePages and FreePages answer, and the pages behind them (UEFI 2.10, section 7.2).
-use Rattle.std.specs.Prelude.{ℕ, true, false, ◌+◌, ◌-◌, ◌*◌, ◌%◌, ◌^◌, ◌==◌, ◌&&◌, ◌||◌, not, nat_le, nat_lt, Bool, Option, Some, None, Result, Ok, Err, if◌then◌else◌}
+use Rattle.std.specs.Prelude.{ℕ, true, false, ◌+◌, ◌*◌, ◌%◌, ◌==◌, ◌&&◌, ◌||◌, nat_le, nat_lt, Bool, Option, Some, None, Result, Ok, Err, if◌then◌else◌}
 use Rattle.page_alloc.specs.declared.page.Owner.{Owner}
 use Rattle.page_alloc.specs.declared.page.Owner.TheVariants.{Free, Firmware, Pages, Pool, Image}
-use Rattle.page_alloc.specs.declared.page.Page.{Page}
 use Rattle.page_alloc.specs.declared.page.PageRefusal.{PageRefusal}
 use Rattle.page_alloc.specs.declared.page.PageRefusal.TheVariants.{Invalid, NotFound, NoPages}
 use Rattle.page_alloc.specs.Pages.{PageList, all_from, index_of, changed, conventional}

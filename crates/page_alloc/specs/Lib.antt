@@ -4,3 +4,4 @@ pub mod Opening
 pub mod Runs
 pub mod Fit
 pub mod Calls
+pub mod Laws

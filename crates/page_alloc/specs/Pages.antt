@@ -1,8 +1,7 @@
 -- The pages of RAM as a list, one entry a page.
-use Rattle.std.specs.Prelude.{ℕ, zero, suc, ◌≡◌, ◌<◌, ◌≤◌, ◌+◌, ◌-◌, ◌*◌, ◌/◌, ◌^◌, ◌==◌, ◌&&◌, ◌++◌, nat_le, min, Bool, List, length, take, drop, replicate, slice_get, Option, None, if◌then◌else◌}
+use Rattle.std.specs.Prelude.{ℕ, ◌≡◌, ◌<◌, ◌≤◌, ◌+◌, ◌-◌, ◌/◌, ◌^◌, ◌==◌, ◌&&◌, ◌++◌, nat_le, min, Bool, List, length, take, drop, replicate, slice_get, Option, None, if◌then◌else◌}
 use Rattle.std.specs.List.{list_all, All}
 use Rattle.page_alloc.specs.Layout.{IsRam}
-use Rattle.page_alloc.specs.declared.page.Owner.{Owner}
 use Rattle.page_alloc.specs.declared.page.Owner.TheVariants.{Free}
 use Rattle.page_alloc.specs.declared.page.Page.{Page}
 

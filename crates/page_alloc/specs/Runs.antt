@@ -1,5 +1,5 @@
 -- The list of pages from runs of equal pages.
-use Rattle.std.specs.Prelude.{ℕ, ◌<◌, ◌++◌, List, [], ◌∷◌, replicate, length}
+use Rattle.std.specs.Prelude.{◌<◌, ◌++◌, List, [], ◌∷◌, replicate}
 use Rattle.page_alloc.specs.declared.page.Page.{Page}
 use Rattle.page_alloc.specs.declared.runs.Run.{Run}
 

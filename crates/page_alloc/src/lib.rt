@@ -1,11 +1,15 @@
 //! The pages of RAM: their types and owners, and who is given which.
 #![tactic(auto)]
 
+mod laws;
 mod layout;
 mod map;
 mod page;
 mod runs;
+#[cfg(test)]
+mod tests;
 
+pub use laws::{fit_is_greatest, fit_means, free_restores, key_counts, others_stay};
 pub use layout::Layout;
 pub use map::PageMap;
 pub use page::{Owner, Page, PageRefusal, may_be_given};

@@ -5,6 +5,8 @@ mod block;
 mod page;
 mod pool;
 mod refusal;
+#[cfg(test)]
+mod tests;
 
 pub use block::Block;
 pub use pool::Pool;

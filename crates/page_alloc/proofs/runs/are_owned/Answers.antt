@@ -1,5 +1,4 @@
-use Rattle.std.proofs.Common.{◌≡◌, ◌≤◌, ◌<◌, ◌+◌, ◌∙◌, ap, sym, ℕ, length, drop, arith, true, false}
-use Rattle.page_alloc.specs.Calls.{is_same_owner}
+use Rattle.std.proofs.Common.{◌<◌, ◌∙◌, sym, arith}
 use Rattle.page_alloc.proofs.RunLemmas.{pages_end, front_more, front_at, not_empty}
 use Rattle.page_alloc.proofs.ScanLemmas.{end_inside}
 use Rattle.page_alloc.proofs.OwnedLemmas.{seen_more, other_owner, owned_all}

@@ -1,4 +1,4 @@
-use Rattle.std.proofs.Common.{◌≡◌, ◌≤◌, ◌<◌, ◌+◌, ◌∙◌, ap, sym, ℕ, length, arith}
+use Rattle.std.proofs.Common.{◌<◌, ◌+◌, ◌∙◌, ap, length, arith}
 use Rattle.std.specs.Option.{option_or}
 use Rattle.page_alloc.proofs.RunLemmas.{pages_from, pages_end, front_more, not_empty}
 use Rattle.page_alloc.proofs.ScanLemmas.{step, finish}

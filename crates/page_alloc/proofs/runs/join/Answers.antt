@@ -1,5 +1,4 @@
-use Rattle.std.proofs.Common.{◌≡◌, ◌≤◌, ◌<◌, ◌+◌, ◌^◌, ◌∙◌, ap, sym, ℕ, length, arith}
-use Rattle.page_alloc.specs.declared.runs.Run.{Run}
+use Rattle.std.proofs.Common.{◌+◌, ◌∙◌, ap, sym, arith}
 use Rattle.std.specs.Prelude.{slice_set, ◌-◌}
 use Rattle.page_alloc.proofs.SamePage.{same_page}
 use Rattle.page_alloc.proofs.SplitLemmas.{Joined, is_joined, two_fit}

@@ -1,4 +1,4 @@
-use Rattle.std.proofs.Common.{◌≡◌, ◌≤◌, ◌<◌, ◌-◌, ℕ, arith, sym, ◌∙◌, ap, None}
+use Rattle.std.proofs.Common.{arith, sym, ◌∙◌, ap}
 use Rattle.std.specs.Prelude.{slice_get}
 use Rattle.page_alloc.proofs.RunLemmas.{page_here, page_later, pages_end}
 use Rattle.page_alloc.proofs.runs.page_in.Goals as goal

@@ -1,4 +1,4 @@
-use Rattle.std.proofs.Common.{◌≡◌, ◌<◌, ◌+◌, ℕ, length, arith, refl}
+use Rattle.std.proofs.Common.{arith}
 use Rattle.page_alloc.specs.Runs.{all_pages}
 use Rattle.page_alloc.proofs.RunLemmas.{left_more}
 use Rattle.page_alloc.proofs.runs.place_of.Goals as goal

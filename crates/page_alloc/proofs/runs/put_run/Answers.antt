@@ -1,6 +1,4 @@
-use Rattle.std.proofs.Common.{◌≡◌, ◌≤◌, ◌<◌, ◌+◌, ◌∙◌, ap, sym, ℕ, length, take, arith}
-use Rattle.page_alloc.specs.Runs.{all_pages}
-use Rattle.page_alloc.specs.Pages.{with_pages}
+use Rattle.std.proofs.Common.{◌<◌, ◌∙◌, ap, length, arith}
 use Rattle.page_alloc.proofs.PageLemmas.{length-with_pages}
 use Rattle.page_alloc.proofs.SplitLemmas.{Filled, filled_by, last_later}
 use Rattle.page_alloc.proofs.runs.put_run.Goals as goal

@@ -1,4 +1,4 @@
-use Rattle.std.proofs.Common.{◌≡◌, ◌≤◌, ◌<◌, ◌+◌, ◌^◌, ◌∙◌, ap, sym, ℕ, length, arith}
+use Rattle.std.proofs.Common.{◌+◌, arith}
 use Rattle.page_alloc.proofs.SplitLemmas.{Parted, is_parted, room_to_part, Placed, placed, less_than_run}
 use Rattle.page_alloc.proofs.runs.split.Goals as goal
 

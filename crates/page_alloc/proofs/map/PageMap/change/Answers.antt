@@ -1,6 +1,6 @@
-use Rattle.std.proofs.Common.{◌≡◌, ◌≤◌, ◌+◌, ◌-◌, ◌/◌, ◌∙◌, ap, sym, refl, ℕ, length, arith, ◌<◌}
+use Rattle.std.proofs.Common.{◌≡◌, ◌≤◌, ◌+◌, ◌-◌, ◌/◌, ◌∙◌, ap, refl, length, arith}
 use Rattle.page_alloc.specs.Runs.{all_pages}
-use Rattle.page_alloc.specs.Pages.{changed, Whole}
+use Rattle.page_alloc.specs.Pages.{changed}
 use Rattle.page_alloc.proofs.PageLemmas.{whole_changed, length-with_pages}
 use Rattle.page_alloc.proofs.map.PageMap.change.Goals as goal
 

@@ -1,5 +1,4 @@
-use Rattle.std.proofs.Common.{◌≡◌, ◌<◌, ◌∙◌, ap, sym, ℕ, length, arith}
-use Rattle.page_alloc.specs.Fit.{fit, IsGreatest, is_room}
+use Rattle.std.proofs.Common.{arith}
 use Rattle.page_alloc.proofs.FitLemmas.{fit_any, fit_below, fit_too_many}
 use Rattle.page_alloc.proofs.map.PageMap.fit_of.Goals as goal
 
