@@ -1,3 +1,4 @@
 pub mod MapLemmas
 pub mod StretchLemmas
 pub mod WriteLemmas
+pub mod LawLemmas
