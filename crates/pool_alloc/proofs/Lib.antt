@@ -7,3 +7,4 @@ pub mod TakeLemmas
 pub mod RestLemmas
 pub mod BackLemmas
 pub mod TakingLemmas
+pub mod LawLemmas

@@ -2,6 +2,7 @@
 #![tactic(auto)]
 
 mod block;
+mod laws;
 mod page;
 mod pool;
 mod refusal;
@@ -9,5 +10,6 @@ mod refusal;
 mod tests;
 
 pub use block::Block;
+pub use laws::{lowest_is_lowest, pool_is_apart};
 pub use pool::Pool;
 pub use refusal::PoolRefusal;

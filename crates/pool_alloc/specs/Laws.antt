@@ -1,0 +1,27 @@
+-- What the definitions come to.
+use Rattle.std.specs.Prelude.{ℕ, ◌≡◌, ◌<◌, ◌≤◌, ◌+◌, ◌*◌, ◌%◌, true, false, List, length, slice_index_or, Option, Some, None}
+use Rattle.pool_alloc.specs.declared.block.Block.{Block}
+use Rattle.pool_alloc.specs.Blocks.{has_room, lowest}
+use Rattle.pool_alloc.specs.Pool.{BlockPage, pages_of, Apart, IsPool}
+
+-- An offset has room and no lower one has; or none has.
+abbrev pub IsLowest : List Block → ℕ → Option ℕ → Type 0
+IsLowest blocks size None = (offset : ℕ) → has_room blocks size offset ≡ false
+IsLowest blocks size (Some lowest) = (has_room blocks size lowest ≡ true) × ((offset : ℕ) → has_room blocks size offset ≡ true → lowest ≤ offset)
+
+-- The lowest gap for one byte or more is just that.
+abbrev pub LowestIsLowest : Type 0
+LowestIsLowest = (blocks : List Block) (size : ℕ) → 0 < size → IsLowest blocks size (lowest blocks size)
+
+-- The blocks of a page are whole units of 8 bytes inside its pages, and no two have a byte in common.
+pub record AreApart (page : BlockPage) : Type 0 where
+  pub units : (i : ℕ) (d : Block) → i < length page.blocks → (slice_index_or page.blocks i d).offset % 8 ≡ 0
+  pub sizes : (i : ℕ) (d : Block) → i < length page.blocks → (slice_index_or page.blocks i d).size % 8 ≡ 0
+  pub inside : (i : ℕ) (d : Block) → i < length page.blocks → (slice_index_or page.blocks i d).offset + (slice_index_or page.blocks i d).size ≤ 4096 * pages_of page.blocks
+  pub apart : (i j : ℕ) (d : Block) → i < j → j < length page.blocks → (slice_index_or page.blocks i d).offset + (slice_index_or page.blocks i d).size ≤ (slice_index_or page.blocks j d).offset
+
+-- That is so on each page of a pool, and no two of its pages meet.
+abbrev pub PoolIsApart : Type 0
+PoolIsApart = (pool : List BlockPage) → IsPool pool
+    → ((i : ℕ) (d : BlockPage) → i < length pool → AreApart (slice_index_or pool i d))
+    × ((i j : ℕ) (d : BlockPage) → i < j → j < length pool → Apart (slice_index_or pool i d) (slice_index_or pool j d))

@@ -1,0 +1,14 @@
+//! What the definitions come to. Each law is the contract of a function that does nothing.
+#![tactic(auto)]
+
+ghost use Rattle.pool_alloc.specs.Laws.{LowestIsLowest, PoolIsApart};
+
+/// The lowest gap has room, and no lower offset has.
+pub fn lowest_is_lowest()
+    ensures { LowestIsLowest }
+{}
+
+/// The blocks of a pool are whole units of 8 bytes inside their pages, and no two have a byte in common.
+pub fn pool_is_apart()
+    ensures { PoolIsApart }
+{}
