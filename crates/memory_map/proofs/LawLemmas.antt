@@ -1,13 +1,13 @@
 -- The memory map covers RAM, and each address has its page's type.
-use Rattle.std.proofs.Common.{◌≡◌, ◌≢◌, ℕ, zero, suc, ◌+◌, ◌-◌, ◌*◌, ◌/◌, ◌<◌, ◌≤◌, List, [], ◌∷◌, length, map, refl, sym, ap, ◌∙◌, arith, Bool, true, false, ◌⊎◌, inl, inr, subst}
+use Rattle.std.proofs.Common.{◌≡◌, ℕ, zero, suc, ◌+◌, ◌-◌, ◌*◌, ◌/◌, ◌<◌, ◌≤◌, List, [], ◌∷◌, length, refl, sym, ◌∙◌, arith, Bool, true, false, inl, inr, subst}
 use Rattle.std.specs.Prelude.{◌==◌, ◌&&◌, nat_le, nat_lt, Option, Some, None, slice_get, if◌then◌else◌}
 use Rattle.std.specs.List.{find}
 use Rattle.std.proofs.lemmas.List.{length-map}
 use Rattle.std.proofs.lemmas.Bool.Decides.{nat_tests, leb_tells, Decides-eqb}
 use Rattle.page_alloc.specs.declared.page.Page.{Page}
-use Rattle.page_alloc.specs.Pages.{PageList, page_at, index_of}
+use Rattle.page_alloc.specs.Pages.{PageList, page_at}
 use Rattle.memory_map.specs.declared.descriptor.Descriptor.{Descriptor}
-use Rattle.memory_map.specs.Map.{map_from, map_of, with_page, described, holds, types_of, descriptor_of, attribute_of, Covers, FirstDiffers, NeighboursDiffer, IsDescribed, IsMap}
+use Rattle.memory_map.specs.Map.{map_from, map_of, with_page, described, holds, types_of, descriptor_of, attribute_of, Covers, FirstDiffers, NeighboursDiffer, IsDescribed}
 use Rattle.memory_map.specs.Laws.{MapIsMap}
 
 -- a page in front of descriptors that cover the rest

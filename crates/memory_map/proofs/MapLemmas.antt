@@ -1,10 +1,9 @@
 -- The descriptors of pages of one type in a row.
-use Rattle.std.proofs.Common.{◌≡◌, ◌≢◌, ℕ, zero, suc, ◌+◌, ◌-◌, ◌*◌, ◌<◌, ◌≤◌, List, [], ◌∷◌, ◌++◌, length, replicate, refl, sym, ap, ◌∙◌, arith, Bool, true, false, eqb}
-use Rattle.std.specs.Prelude.{◌==◌, ◌&&◌, nat_le, nat_lt, Option, Some, None, if◌then◌else◌}
-use Rattle.std.specs.List.{find}
+use Rattle.std.proofs.Common.{◌≡◌, ◌≢◌, ℕ, zero, suc, ◌+◌, ◌*◌, ◌<◌, List, [], ◌∷◌, ◌++◌, replicate, refl, ap, ◌∙◌, arith, Bool, true, false}
+use Rattle.std.specs.Prelude.{◌==◌, if◌then◌else◌}
 use Rattle.std.proofs.lemmas.Bool.Decides.{nat_tests, Decides-eqb}
 use Rattle.memory_map.specs.declared.descriptor.Descriptor.{Descriptor}
-use Rattle.memory_map.specs.Map.{map_from, with_page, described, holds, attribute_of}
+use Rattle.memory_map.specs.Map.{map_from, with_page, described}
 
 -- the first of the types, if there is one, is another
 abbrev pub OtherType : ℕ → List ℕ → Type 0

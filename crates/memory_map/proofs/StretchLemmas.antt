@@ -1,6 +1,6 @@
 -- Runs of one type.
-use Rattle.std.proofs.Common.{◌≡◌, ◌≢◌, ℕ, zero, suc, ◌+◌, ◌-◌, ◌*◌, ◌<◌, ◌≤◌, List, [], ◌∷◌, ◌++◌, length, replicate, drop, get_or, map, refl, sym, ap, ◌∙◌, arith, length-append, length-drop, subst, ◌⊎◌, inl, inr, take, add-zero, Bool, true, false}
-use Rattle.std.specs.Prelude.{◌&&◌, nat_le, nat_lt, Some, None, if◌then◌else◌}
+use Rattle.std.proofs.Common.{◌≡◌, ◌≢◌, ℕ, zero, suc, ◌+◌, ◌-◌, ◌*◌, ◌<◌, ◌≤◌, List, [], ◌∷◌, ◌++◌, length, replicate, drop, get_or, refl, sym, ap, ◌∙◌, arith, length-append, length-drop, subst, inl, inr, take, add-zero, true, false}
+use Rattle.std.specs.Prelude.{◌&&◌, nat_le, nat_lt, Some}
 use Rattle.memory_map.specs.declared.descriptor.Descriptor.{Descriptor}
 use Rattle.std.proofs.lemmas.Bool.Decides.{leb_tells, nat_tests}
 use Rattle.std.proofs.lemmas.List.{append_assoc, length-replicate, length-map, map-append, replicate-append-replicate, drop-drop, take_rest, get_or-drop, get_or_default}
@@ -10,7 +10,7 @@ use Rattle.page_alloc.specs.Runs.{all_pages, NoneEmpty}
 use Rattle.page_alloc.proofs.RunLemmas.{pages_from, pages_end, not_empty}
 use Rattle.page_alloc.specs.declared.page.Owner.TheVariants.{Free}
 use Rattle.page_alloc.proofs.EditLemmas.{none_drop, parts}
-use Rattle.memory_map.specs.Map.{types_of, map_from, described, descriptor_of, holds}
+use Rattle.memory_map.specs.Map.{types_of, map_from, described, descriptor_of}
 use Rattle.memory_map.proofs.MapLemmas.{OtherType, map_first, map_none}
 
 map-replicate : (n : ℕ) (page : Page) → types_of (replicate n page) ≡ replicate n page.memory_type

@@ -1,8 +1,6 @@
 -- What the memory map comes to.
-use Rattle.std.specs.Prelude.{ℕ, ◌≡◌, ◌*◌}
 use Rattle.page_alloc.specs.Pages.{PageList}
 use Rattle.memory_map.specs.Map.{map_of, IsMap}
-use Rattle.memory_map.specs.declared.descriptor.Descriptor.{Descriptor}
 
 -- The map of any pages has no gap and no overlap, neighbours differ, and each address has its page's type.
 abbrev pub MapIsMap : Type 0

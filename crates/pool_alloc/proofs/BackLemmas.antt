@@ -1,17 +1,14 @@
 -- Pages of the pool that are given back.
-use Rattle.std.proofs.Common.{◌≡◌, ◌≢◌, ℕ, zero, suc, ◌+◌, ◌-◌, ◌*◌, ◌/◌, ◌%◌, ◌^◌, ◌<◌, ◌≤◌, List, [], ◌∷◌, ◌++◌, length, take, drop, get_or, refl, sym, ap, ◌∙◌, arith, Bool, true, false, ◌⊎◌, inl, inr, subst}
-use Rattle.std.specs.Prelude.{Option, Some, None, Ok, Err, remove, position, slice_set}
-use Rattle.std.proofs.lemmas.List.{get_or_default}
+use Rattle.std.proofs.Common.{◌≡◌, ℕ, zero, suc, ◌<◌, List, [], ◌∷◌, length, get_or, refl, arith, true, inl, inr, subst}
+use Rattle.std.specs.Prelude.{Option, Some, Err, remove}
 use Rattle.page_alloc.specs.declared.page.Owner.TheVariants.{Pool}
-use Rattle.page_alloc.specs.Pages.{PageList, Whole, changed, conventional, index_of}
+use Rattle.page_alloc.specs.Pages.{PageList, Whole, changed, conventional}
 use Rattle.page_alloc.specs.declared.page.PageRefusal.{PageRefusal}
 use Rattle.page_alloc.specs.Calls.{owns, freeing}
-use Rattle.page_alloc.proofs.CallLemmas.{owns_kept, Owns, owns_tells, free_owned}
-use Rattle.pool_alloc.specs.declared.block.Block.{Block}
-use Rattle.pool_alloc.specs.Pool.{BlockPage, Taken, behind, take_first, begins_at, pages_of, AreBlocks, IsPage, Apart, ApartFrom, IsPool, Together, TakeGives, BackGives}
+use Rattle.page_alloc.proofs.CallLemmas.{owns_kept, owns_tells, free_owned}
+use Rattle.pool_alloc.specs.Pool.{BlockPage, behind, pages_of, IsPage, Apart, ApartFrom, IsPool, Together, BackGives}
 use Rattle.pool_alloc.proofs.NewPageLemmas.{some_pages}
-use Rattle.pool_alloc.proofs.PoolLemmas.{page_of, read}
-use Rattle.pool_alloc.proofs.RestLemmas.{less, page_kept, page_gone, kept_pool, kept_together}
+use Rattle.pool_alloc.proofs.PoolLemmas.{page_of}
 
 from_less : (p : BlockPage) (pages : List BlockPage) (i : ℕ) → ApartFrom p pages → ApartFrom p (remove pages i)
 from_less p [] zero all = tt

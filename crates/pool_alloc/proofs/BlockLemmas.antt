@@ -1,12 +1,12 @@
 -- Blocks that are put among others and taken out.
-use Rattle.std.proofs.Common.{◌≡◌, ◌≢◌, ℕ, zero, suc, ◌+◌, ◌-◌, ◌*◌, ◌/◌, ◌%◌, ◌<◌, ◌≤◌, List, [], ◌∷◌, ◌++◌, length, take, drop, get_or, refl, sym, ap, ◌∙◌, arith, Bool, true, false, ◌⊎◌, inl, inr, subst}
-use Rattle.std.specs.Prelude.{◌&&◌, ◌==◌, not, nat_le, nat_lt, Option, Some, None, if◌then◌else◌}
+use Rattle.std.proofs.Common.{◌≡◌, ℕ, ◌+◌, ◌%◌, ◌<◌, ◌≤◌, List, [], ◌∷◌, length, refl, sym, ◌∙◌, arith, Bool, true, false, inl, inr, subst}
+use Rattle.std.specs.Prelude.{not, nat_le, nat_lt, Some, None, if◌then◌else◌}
 use Rattle.std.specs.List.{list_all}
-use Rattle.std.proofs.lemmas.Bool.Decides.{nat_tests, leb_tells}
+use Rattle.std.proofs.lemmas.Bool.Decides.{nat_tests}
 use Rattle.pool_alloc.specs.declared.block.Block.{Block}
 use Rattle.pool_alloc.specs.Blocks.{with_block, has_room, is_large, pages_for, lowest}
-use Rattle.pool_alloc.specs.Pool.{InOrder, AreShared, AreBlocks, IsLarge, CanPut, is_shared, pages_of}
-use Rattle.pool_alloc.proofs.GapLemmas.{IsLeast, Gap, lowest_is, room_is, tells, and_true, Free, free_tells, room_tells, gap_from, gap_is_lowest}
+use Rattle.pool_alloc.specs.Pool.{InOrder, AreShared, AreBlocks, CanPut, is_shared, pages_of}
+use Rattle.pool_alloc.proofs.GapLemmas.{IsLeast, Gap, lowest_is, room_is, tells, and_true, Free, room_tells, gap_from, gap_is_lowest}
 
 -- a block of at most 2,048 bytes takes one page
 one_page : (size : ℕ) → 0 < size → is_large size ≡ false → pages_for size ≡ 1

@@ -1,10 +1,9 @@
 -- What the definitions come to.
-use Rattle.std.proofs.Common.{◌≡◌, ◌≢◌, ℕ, zero, suc, ◌+◌, ◌-◌, ◌*◌, ◌/◌, ◌%◌, ◌<◌, ◌≤◌, List, [], ◌∷◌, length, get_or, refl, sym, ap, ◌∙◌, arith, Bool, true, false, ◌⊎◌, inl, inr}
+use Rattle.std.proofs.Common.{◌≡◌, ℕ, zero, suc, ◌+◌, ◌*◌, ◌/◌, ◌%◌, ◌<◌, ◌≤◌, List, [], ◌∷◌, length, get_or, arith, inl, inr}
 use Rattle.std.specs.Prelude.{Option, Some, None}
-use Rattle.std.proofs.lemmas.Bool.Decides.{nat_tests}
 use Rattle.pool_alloc.specs.declared.block.Block.{Block}
-use Rattle.pool_alloc.specs.Blocks.{has_room, lowest, is_large}
-use Rattle.pool_alloc.specs.Pool.{BlockPage, pages_of, InOrder, AreBlocks, IsLarge, AreShared, IsPage, Apart, ApartFrom, IsPool}
+use Rattle.pool_alloc.specs.Blocks.{has_room, lowest}
+use Rattle.pool_alloc.specs.Pool.{BlockPage, InOrder, AreBlocks, IsLarge, AreShared, Apart, ApartFrom, IsPool}
 use Rattle.pool_alloc.specs.Laws.{IsLowest, LowestIsLowest, AreApart, PoolIsApart}
 use Rattle.pool_alloc.proofs.GapLemmas.{tells, IsLeast, Gap, lowest_is, room_is, room_tells}
 use Rattle.pool_alloc.proofs.BlockLemmas.{shared_pages}

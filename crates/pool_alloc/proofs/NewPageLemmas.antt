@@ -1,16 +1,14 @@
 -- New pages of the pool.
-use Rattle.std.proofs.Common.{◌≡◌, ◌≢◌, ℕ, zero, suc, ◌+◌, ◌-◌, ◌*◌, ◌/◌, ◌%◌, ◌^◌, ◌<◌, ◌≤◌, List, [], ◌∷◌, ◌++◌, length, refl, sym, ap, ◌∙◌, arith, Bool, true, false, ◌⊎◌, inl, inr, subst, max}
-use Rattle.std.specs.Prelude.{◌&&◌, ◌==◌, not, nat_le, nat_lt, Option, Some, None, Result, Ok, Err, if◌then◌else◌}
-use Rattle.std.proofs.lemmas.Bool.Decides.{nat_tests, leb_tells}
+use Rattle.std.proofs.Common.{◌≡◌, ◌≢◌, ℕ, ◌+◌, ◌*◌, ◌/◌, ◌%◌, ◌^◌, ◌<◌, ◌≤◌, List, [], ◌∷◌, ◌++◌, refl, sym, ap, ◌∙◌, arith, Bool, true, false, ◌⊎◌, inl, inr, subst, max}
+use Rattle.std.specs.Prelude.{◌==◌, Ok, if◌then◌else◌}
+use Rattle.std.proofs.lemmas.Bool.Decides.{nat_tests}
 use Rattle.page_alloc.specs.declared.page.Owner.TheVariants.{Pool}
-use Rattle.page_alloc.specs.declared.page.Page.{Page}
 use Rattle.page_alloc.specs.Pages.{PageList, Whole, changed, index_of}
-use Rattle.page_alloc.specs.Calls.{owns, allocation, after_allocation}
-use Rattle.page_alloc.proofs.CallLemmas.{Given, is_given, owns_changed, owns_kept, given_apart, Owns, owns_tells}
+use Rattle.page_alloc.specs.Calls.{owns, allocation}
+use Rattle.page_alloc.proofs.CallLemmas.{Given, is_given, owns_changed, owns_kept, given_apart, owns_tells}
 use Rattle.pool_alloc.specs.declared.block.Block.{Block}
 use Rattle.pool_alloc.specs.Blocks.{rounded, is_large, pages_for}
-use Rattle.pool_alloc.specs.Pool.{BlockPage, pages_of, AreBlocks, IsLarge, AreShared, IsPage, Apart, ApartFrom, IsPool, Together}
-use Rattle.pool_alloc.proofs.GapLemmas.{tells}
+use Rattle.pool_alloc.specs.Pool.{BlockPage, pages_of, AreBlocks, IsPage, Apart, ApartFrom, IsPool, Together}
 use Rattle.pool_alloc.proofs.BlockLemmas.{shared_pages}
 
 -- sizes

@@ -1,11 +1,11 @@
 -- A block in a gap.
-use Rattle.std.proofs.Common.{◌≡◌, ℕ, ◌+◌, ◌<◌, ◌≤◌, List, [], get_or, refl, sym, ap, ◌∙◌, arith, Bool, true, false}
-use Rattle.std.specs.Prelude.{Option, Some, None, Result, Ok, Err, if◌then◌else◌, slice_set, nat_lt}
+use Rattle.std.proofs.Common.{◌≡◌, ℕ, ◌+◌, ◌≤◌, List, [], get_or, sym, ap, ◌∙◌, arith, true, false}
+use Rattle.std.specs.Prelude.{Some, Ok, slice_set}
 use Rattle.std.proofs.lemmas.Bool.Decides.{nat_tests}
 use Rattle.page_alloc.specs.Pages.{PageList}
 use Rattle.page_alloc.specs.Calls.{may_be_given}
 use Rattle.pool_alloc.specs.Blocks.{rounded, is_large}
-use Rattle.pool_alloc.specs.Pool.{BlockPage, Placed, put_first, with_block_on}
+use Rattle.pool_alloc.specs.Pool.{BlockPage, put_first, with_block_on}
 use Rattle.pool_alloc.specs.Calls.{pool_allocation, on_page, gap_for}
 use Rattle.pool_alloc.proofs.NewPageLemmas.{rounded_small}
 

@@ -1,15 +1,13 @@
 -- Pages of the pool.
-use Rattle.std.proofs.Common.{◌≡◌, ◌≢◌, ℕ, zero, suc, ◌+◌, ◌-◌, ◌*◌, ◌/◌, ◌%◌, ◌^◌, ◌<◌, ◌≤◌, List, [], ◌∷◌, ◌++◌, length, take, drop, get_or, refl, sym, ap, ◌∙◌, arith, Bool, true, false, ◌⊎◌, inl, inr, subst}
-use Rattle.std.specs.Prelude.{◌&&◌, ◌==◌, not, nat_le, nat_lt, Option, Some, None, if◌then◌else◌, slice_set}
-use Rattle.std.proofs.lemmas.Bool.Decides.{nat_tests, leb_tells, Decides-eqb}
+use Rattle.std.proofs.Common.{◌≡◌, ℕ, zero, suc, ◌+◌, ◌%◌, ◌^◌, ◌<◌, ◌≤◌, List, [], ◌∷◌, ◌++◌, length, take, drop, get_or, refl, sym, ap, ◌∙◌, arith, Bool, true, false, inl, inr, subst}
+use Rattle.std.specs.Prelude.{◌&&◌, ◌==◌, Option, Some, None, if◌then◌else◌, slice_set}
 use Rattle.std.proofs.lemmas.List.{at_drop_more, at_drop_all, take_more, append_assoc, set_split, get_or_default}
 use Rattle.page_alloc.specs.declared.page.Owner.TheVariants.{Pool}
 use Rattle.page_alloc.specs.Pages.{PageList}
 use Rattle.page_alloc.specs.Calls.{owns}
-use Rattle.pool_alloc.specs.declared.block.Block.{Block}
-use Rattle.pool_alloc.specs.Blocks.{lowest, with_block}
-use Rattle.pool_alloc.specs.Pool.{BlockPage, Placed, room_on, put_on, put_first, with_block_on, is_shared, pages_of, AreBlocks, AreShared, IsPage, CanPut, Apart, ApartFrom, IsPool, Together}
-use Rattle.pool_alloc.proofs.GapLemmas.{tells, and_true, room_tells}
+use Rattle.pool_alloc.specs.Blocks.{lowest}
+use Rattle.pool_alloc.specs.Pool.{BlockPage, Placed, room_on, put_on, put_first, with_block_on, is_shared, pages_of, AreBlocks, IsPage, CanPut, Apart, ApartFrom, IsPool, Together}
+use Rattle.pool_alloc.proofs.GapLemmas.{and_true, room_tells}
 use Rattle.pool_alloc.proofs.BlockLemmas.{shared_pages, put_blocks, put_pages, lowest_room, lowest_units, is_shared_page}
 
 -- a page of a pool

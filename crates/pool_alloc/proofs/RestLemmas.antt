@@ -1,21 +1,17 @@
 -- What is left of the pool where a block is taken.
-use Rattle.std.proofs.Common.{◌≡◌, ◌≢◌, ℕ, zero, suc, ◌+◌, ◌-◌, ◌*◌, ◌/◌, ◌%◌, ◌^◌, ◌<◌, ◌≤◌, List, [], ◌∷◌, ◌++◌, length, take, drop, get_or, refl, sym, ap, ◌∙◌, arith, Bool, true, false, ◌⊎◌, inl, inr, subst}
-use Rattle.std.specs.Prelude.{◌&&◌, ◌==◌, not, nat_le, nat_lt, Option, Some, None, if◌then◌else◌, slice_set, remove, position}
-use Rattle.std.specs.List.{filter, list_all, find}
-use Rattle.std.proofs.lemmas.Bool.Decides.{nat_tests, leb_tells, Decides-eqb}
-use Rattle.std.proofs.lemmas.List.{at_drop_more, set_split, get_or_default}
+use Rattle.std.proofs.Common.{◌≡◌, ◌≢◌, ℕ, zero, suc, ◌+◌, ◌<◌, ◌≤◌, List, [], ◌∷◌, ◌++◌, length, take, drop, get_or, refl, sym, ap, ◌∙◌, arith, Bool, true, false, inl, inr, subst}
+use Rattle.std.specs.Prelude.{not, Some, None, if◌then◌else◌, slice_set, remove, position}
+use Rattle.std.specs.List.{filter, list_all}
+use Rattle.std.proofs.lemmas.Bool.Decides.{nat_tests, Decides-eqb}
+use Rattle.std.proofs.lemmas.List.{at_drop_more, set_split}
 use Rattle.std.proofs.lemmas.List.Quantifiers.{position-Some}
 use Rattle.std.proofs.lemmas.List.Edits.{length-remove}
-use Rattle.page_alloc.specs.declared.page.Owner.TheVariants.{Pool}
-use Rattle.page_alloc.specs.Pages.{PageList, Whole, changed, conventional, index_of}
-use Rattle.page_alloc.specs.Calls.{owns}
-use Rattle.page_alloc.proofs.CallLemmas.{owns_kept, Owns, owns_tells}
+use Rattle.page_alloc.specs.Pages.{PageList}
 use Rattle.pool_alloc.specs.declared.block.Block.{Block}
 use Rattle.pool_alloc.specs.Blocks.{is_large}
-use Rattle.pool_alloc.specs.Pool.{BlockPage, Taken, behind, take_on, take_first, left_of, without, begins_at, is_shared, pages_of, InOrder, AreBlocks, IsLarge, AreShared, IsPage, Apart, ApartFrom, IsPool, Together, BackGives}
-use Rattle.pool_alloc.proofs.GapLemmas.{tells, and_true}
+use Rattle.pool_alloc.specs.Pool.{BlockPage, behind, take_on, take_first, left_of, without, begins_at, is_shared, pages_of, InOrder, AreBlocks, AreShared, IsPage, IsPool, Together}
+use Rattle.pool_alloc.proofs.GapLemmas.{and_true}
 use Rattle.pool_alloc.proofs.BlockLemmas.{shared_pages, some_blocks}
-use Rattle.pool_alloc.proofs.NewPageLemmas.{some_pages}
 use Rattle.pool_alloc.proofs.PoolLemmas.{SamePlace, pool_set, together_set, page_of}
 use Rattle.pool_alloc.proofs.TakeLemmas.{find_some}
 

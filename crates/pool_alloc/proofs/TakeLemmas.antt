@@ -1,16 +1,12 @@
 -- Blocks that are taken from the pool.
-use Rattle.std.proofs.Common.{◌≡◌, ◌≢◌, ℕ, zero, suc, ◌+◌, ◌-◌, ◌*◌, ◌/◌, ◌%◌, ◌^◌, ◌<◌, ◌≤◌, List, [], ◌∷◌, ◌++◌, length, take, drop, get_or, refl, sym, ap, ◌∙◌, arith, Bool, true, false, ◌⊎◌, inl, inr, subst}
-use Rattle.std.specs.Prelude.{◌&&◌, ◌==◌, not, nat_le, nat_lt, Option, Some, None, if◌then◌else◌, slice_set, slice_get, remove}
-use Rattle.std.specs.List.{find, filter, position, position_or_len, list_all}
-use Rattle.std.proofs.lemmas.Bool.Decides.{nat_tests, leb_tells, Decides-eqb}
-use Rattle.std.proofs.lemmas.List.{at_drop_more, at_drop_all, take_more, append_assoc, set_split, get_or_default}
+use Rattle.std.proofs.Common.{◌≡◌, ℕ, zero, suc, ◌+◌, ◌<◌, ◌≤◌, List, [], ◌∷◌, ◌++◌, length, take, drop, get_or, refl, sym, ap, ◌∙◌, arith, Bool, true, false, subst}
+use Rattle.std.specs.Prelude.{nat_lt, Option, Some, None, if◌then◌else◌, slice_get}
+use Rattle.std.specs.List.{find, position, position_or_len}
+use Rattle.std.proofs.lemmas.Bool.Decides.{nat_tests}
+use Rattle.std.proofs.lemmas.List.{at_drop_more, at_drop_all, take_more, append_assoc, get_or_default}
 use Rattle.std.proofs.lemmas.List.Folds.{find_at}
 use Rattle.std.proofs.lemmas.List.Quantifiers.{position-Some}
-use Rattle.pool_alloc.specs.declared.block.Block.{Block}
-use Rattle.pool_alloc.specs.Blocks.{is_large}
-use Rattle.pool_alloc.specs.Pool.{BlockPage, Taken, behind, take_on, take_first, left_of, without, begins_at, is_shared, pages_of, InOrder, AreBlocks, IsLarge, AreShared, IsPage, Apart, ApartFrom, IsPool}
-use Rattle.pool_alloc.proofs.GapLemmas.{tells, and_true}
-use Rattle.pool_alloc.proofs.BlockLemmas.{shared_pages}
+use Rattle.pool_alloc.specs.Pool.{BlockPage, Taken, behind, take_on, take_first, begins_at}
 
 -- searches by place
 past : {X : Type 0} (xs : List X) (n : ℕ) → length xs ≤ n → slice_get xs n ≡ None

@@ -1,12 +1,12 @@
 -- The pool behind a taking, as the code has it.
-use Rattle.std.proofs.Common.{◌≡◌, ◌≢◌, ℕ, suc, ◌+◌, ◌*◌, ◌%◌, ◌^◌, ◌<◌, ◌≤◌, List, [], ◌∷◌, ◌++◌, length, take, drop, get_or, refl, sym, ap, ◌∙◌, arith, Bool, true, false, subst}
-use Rattle.std.specs.Prelude.{Option, Some, None, remove, position, slice_set, ◌==◌}
+use Rattle.std.proofs.Common.{◌≡◌, ◌≢◌, ℕ, suc, ◌<◌, List, ◌++◌, length, take, drop, get_or, sym, ap, ◌∙◌, arith, Bool, true, false, subst}
+use Rattle.std.specs.Prelude.{Some, None, remove, position, slice_set, ◌==◌}
 use Rattle.std.proofs.lemmas.Bool.Decides.{nat_tests}
 use Rattle.std.proofs.lemmas.List.{take-set, drop-set-lt}
 use Rattle.page_alloc.specs.Pages.{PageList, Whole}
 use Rattle.pool_alloc.specs.declared.block.Block.{Block}
-use Rattle.pool_alloc.specs.Pool.{BlockPage, Taken, behind, take_first, begins_at, pages_of, AreBlocks, IsPage, IsPool, Together, BackGives}
-use Rattle.pool_alloc.proofs.PoolLemmas.{page_of, read, read_page}
+use Rattle.pool_alloc.specs.Pool.{BlockPage, behind, take_first, begins_at, pages_of, IsPool, Together, BackGives}
+use Rattle.pool_alloc.proofs.PoolLemmas.{read}
 use Rattle.pool_alloc.proofs.RestLemmas.{less, page_kept, page_gone, kept_pool, kept_together}
 use Rattle.pool_alloc.proofs.BackLemmas.{pool_less, back_gives}
 

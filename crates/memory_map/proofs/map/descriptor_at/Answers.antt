@@ -1,6 +1,4 @@
-use Rattle.std.proofs.Common.{◌≡◌, ◌≤◌, ◌<◌, ◌+◌, ◌*◌, ◌-◌, ◌^◌, ◌∙◌, ap, sym, ℕ, List, length, take, drop, get_or, arith, Some, None}
-use Rattle.page_alloc.specs.declared.runs.Run.{Run}
-use Rattle.page_alloc.specs.Runs.{all_pages}
+use Rattle.std.proofs.Common.{◌∙◌, ap, sym, length, arith, Some}
 use Rattle.memory_map.specs.Map.{map_from, types_of, descriptor_of}
 use Rattle.memory_map.proofs.StretchLemmas.{blank, step_from, rest_is, rest_none, rest_few, walk_on, walk_fits, map_step, map_over, found_here, found_later}
 use Rattle.memory_map.proofs.map.descriptor_at.Goals as goal

@@ -1,8 +1,7 @@
-use Rattle.std.proofs.Common.{◌≡◌, ◌≤◌, ◌<◌, ◌+◌, ◌*◌, ◌-◌, ◌^◌, ◌++◌, ◌∷◌, [], ◌∙◌, ap, sym, ℕ, List, length, take, drop, get_or, arith}
+use Rattle.std.proofs.Common.{◌≡◌, ◌++◌, ◌∷◌, [], ◌∙◌, ap, sym, List, length, arith}
 use Rattle.std.proofs.lemmas.List.{append_assoc, append-nil}
-use Rattle.page_alloc.specs.Runs.{all_pages}
 use Rattle.memory_map.specs.declared.descriptor.Descriptor.{Descriptor}
-use Rattle.memory_map.specs.Map.{map_from, types_of, described}
+use Rattle.memory_map.specs.Map.{map_from, types_of}
 use Rattle.memory_map.proofs.StretchLemmas.{blank, step_from, rest_is, rest_none, rest_few, walk_on, walk_fits, map_step, map_over}
 use Rattle.memory_map.proofs.map.descriptors.Goals as goal
 

@@ -1,5 +1,4 @@
-use Rattle.std.proofs.Common.{◌≡◌, ◌≤◌, ◌+◌, ◌∙◌, sym, ℕ, length, arith}
-use Rattle.page_alloc.specs.Runs.{all_pages}
+use Rattle.std.proofs.Common.{arith}
 use Rattle.memory_map.proofs.StretchLemmas.{stretch_more, stretch_fits}
 use Rattle.memory_map.proofs.map.stretch.Goals as goal
 

@@ -1,4 +1,3 @@
-use Rattle.std.proofs.Common.{◌≡◌}
 use Rattle.memory_map.proofs.StretchLemmas.{Stretch}
 use Rattle.memory_map.proofs.map.stretch.Given as goal
 

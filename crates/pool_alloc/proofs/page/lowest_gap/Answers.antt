@@ -1,4 +1,4 @@
-use Rattle.std.proofs.Common.{◌≡◌, ◌∙◌, sym}
+use Rattle.std.proofs.Common.{◌∙◌, sym}
 use Rattle.pool_alloc.proofs.GapLemmas.{gap_here, gap_last, gap_none, gap_is_lowest}
 use Rattle.pool_alloc.proofs.page.lowest_gap.Goals as goal
 

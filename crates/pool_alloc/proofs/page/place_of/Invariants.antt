@@ -1,5 +1,4 @@
 use Rattle.std.proofs.Common.{◌≡◌, ◌++◌, ℕ, take, drop}
-use Rattle.pool_alloc.specs.declared.block.Block.{Block}
 use Rattle.pool_alloc.specs.Blocks.{with_block}
 use Rattle.pool_alloc.proofs.page.place_of.Given as goal
 

@@ -1,4 +1,4 @@
-use Rattle.std.proofs.Common.{◌≡◌, ◌∙◌, sym}
+use Rattle.std.proofs.Common.{◌∙◌, sym}
 use Rattle.pool_alloc.proofs.PlacedLemmas.{placed_gives}
 use Rattle.pool_alloc.proofs.pool.Pool.allocate.Goals as goal
 

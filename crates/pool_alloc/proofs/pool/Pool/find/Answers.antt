@@ -1,4 +1,4 @@
-use Rattle.std.proofs.Common.{◌≡◌, ◌∙◌, sym}
+use Rattle.std.proofs.Common.{◌∙◌, sym}
 use Rattle.pool_alloc.proofs.TakeLemmas.{behind_more, behind_over, behind_there}
 use Rattle.pool_alloc.proofs.pool.Pool.find.Goals as goal
 

@@ -1,4 +1,4 @@
-use Rattle.std.proofs.Common.{◌≡◌, ◌∙◌, sym}
+use Rattle.std.proofs.Common.{◌∙◌, sym}
 use Rattle.pool_alloc.proofs.PoolLemmas.{read_blocks, read_can, read_here, read_more, read_none}
 use Rattle.pool_alloc.proofs.pool.Pool.place.Goals as goal
 

@@ -1,4 +1,4 @@
-use Rattle.std.proofs.Common.{◌≤◌, ◌+◌, arith}
+use Rattle.std.proofs.Common.{arith}
 use Rattle.pool_alloc.proofs.PoolLemmas.{write_fits, write_pool, write_together}
 use Rattle.pool_alloc.proofs.pool.Pool.put.Goals as goal
 
