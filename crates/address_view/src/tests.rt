@@ -11,7 +11,13 @@ use rv_step::{Bus, BusEnd};
 use std::alloc::{AllocError, Global};
 use std::test::Fail;
 
-fn store(memory: &mut GuestMemory, view: &View, at: u64, width: u8, value: u64) -> Result<(), BusEnd>
+fn store(
+    memory: &mut GuestMemory,
+    view: &View,
+    at: u64,
+    width: u8,
+    value: u64,
+) -> Result<(), BusEnd>
     requires { IsTrue (is_width width) }
 {
     Viewed { memory, view }.store(at, width, value)
@@ -46,12 +52,20 @@ fn view_of(alloc: Global) -> Result<View, AllocError> {
     View::identity(alloc, 0x100000, 0x100000)
 }
 
+/// 256 new pages.
+fn fresh(alloc: Global) -> Result<GuestMemory, AllocError> {
+    GuestMemory::new(alloc, 0x100000, 256)
+}
+
 #[test]
 fn bytes_over_a_page_edge(rt: HostRuntime) -> Result<(), Fail> {
-    let mut memory = GuestMemory::new(rt.alloc(), 0x100000, 256)?;
+    let mut memory = fresh(rt.alloc())?;
     let view = view_of(rt.alloc())?;
     assert!(rt; allowed(&memory, &view, 0x100fff, 2, true));
-    assert_eq!(rt; store_bytes(rt.alloc(), &mut memory, &view, 0x100fff, &[1, 2]), Ok(()));
+    assert_eq!(rt;
+        store_bytes(rt.alloc(), &mut memory, &view, 0x100fff, &[1, 2]),
+        Ok(())
+    );
     assert!(rt; is_seen(&memory, &view, 0x100fff, 2));
     let loaded = load_bytes(rt.alloc(), &memory, &view, 0x100fff, 2)?;
     assert_eq!(rt; loaded.as_slice(), [1, 2].as_slice());
@@ -73,10 +87,16 @@ fn places_and_addresses(rt: HostRuntime) -> Result<(), Fail> {
 fn a_store_over_the_edge_of_a_page_without_the_right(rt: HostRuntime) -> Result<(), Fail> {
     let mut memory = pages(rt.alloc())?;
     let view = view_of(rt.alloc())?;
-    assert_eq!(rt; store(&mut memory, &view, 0x100ffc, 8, 0x1122334455667788), Err(BusEnd::Outside(0x101000)));
+    assert_eq!(rt;
+        store(&mut memory, &view, 0x100ffc, 8, 0x1122334455667788),
+        Err(BusEnd::Outside(0x101000))
+    );
     assert_eq!(rt; load(&mut memory, &view, 0x100ffc, 8), Ok(0));
     assert_eq!(rt; memory.touched(), 0);
-    assert_eq!(rt; store(&mut memory, &view, 0x100ff8, 8, 0x1122334455667788), Ok(()));
+    assert_eq!(rt;
+        store(&mut memory, &view, 0x100ff8, 8, 0x1122334455667788),
+        Ok(())
+    );
     assert_eq!(rt; load(&mut memory, &view, 0x100ffe, 8), Ok(0x1122));
     assert_eq!(rt; fetch(&mut memory, &view, 0x1fffff), Err(0x200000));
     assert_eq!(rt; memory.touched(), 1);
@@ -115,7 +135,12 @@ fn an_access_over_the_seam_of_two_windows(rt: HostRuntime) -> Result<(), Fail> {
     assert_eq!(rt; store(&mut memory, &view, last, 4, 0x44332211), Ok(()));
     assert_eq!(rt; load(&mut memory, &view, last, 4), Ok(0x44332211));
     assert_eq!(rt; load(&mut memory, &view, 0xffe, 4), Err(0x1000));
-    for (at, byte) in [(0x102ffe, 0x11), (0x102fff, 0x22), (0x100000, 0x33), (0x100001, 0x44)] {
+    for (at, byte) in [
+        (0x102ffe, 0x11),
+        (0x102fff, 0x22),
+        (0x100000, 0x33),
+        (0x100001, 0x44),
+    ] {
         assert_eq!(rt; memory.get(at), Some(byte));
     }
     assert_eq!(rt; memory.touched(), 2);
