@@ -1,5 +1,5 @@
 -- Fields in the bytes of a page.
-use Rattle.std.proofs.Common.{◌≡◌, ℕ, zero, suc, ◌+◌, ◌*◌, ◌-◌, ◌/◌, ◌%◌, ◌≤◌, ◌<◌, Bool, true, false, List, [], ◌∷◌, ◌++◌, length, take, drop, refl, sym, ap, ◌∙◌, arith, add-one, get_or, length-append, length-drop}
+use Rattle.std.proofs.Common.{◌≡◌, ℕ, zero, suc, ◌+◌, ◌*◌, ◌-◌, ◌/◌, ◌≤◌, ◌<◌, Bool, true, false, List, [], ◌∷◌, ◌++◌, length, take, drop, refl, sym, ap, ◌∙◌, arith, add-one, get_or, length-append, length-drop}
 use Rattle.std.specs.Prelude.{◌&&◌}
 use Rattle.std.proofs.lemmas.List.{length-take}
 use Rattle.std.proofs.Math.Seq.{drop-cons}
@@ -8,9 +8,8 @@ use borrow.Rule.Slice.PartMut.{put_mid}
 use Rattle.std.proofs.lemmas.Bool.{false≢true}
 use Rattle.std.proofs.lemmas.Bool.Decides.{nat_tests}
 use Rattle.uh_base.specs.LittleEndian.{low_bytes}
-use Rattle.guest_memory.specs.Lists.{written_over}
 use Rattle.system_tables.specs.declared.fields.Field.{Field}
-use Rattle.system_tables.specs.Fields.{fits, all_fit, with_field, with_fields, with_crc, crc_field, pointer, plus, slot_pointers}
+use Rattle.system_tables.specs.Fields.{fits, all_fit, with_field, with_fields, pointer, plus, slot_pointers}
 
 pub long_low : (count n : ℕ) → length (low_bytes count n) ≡ count
 unfolding low_bytes
@@ -42,6 +41,13 @@ long_field page field long h =
     let l = long_low field.width field.value in
     let room = room_of field h in
     simp (length-append, length-take, length-drop, l) (omega arith)
+
+pub long_fields : (page : List ℕ) (fields : List Field) → length page ≡ 4096 → all_fit fields ≡ true → length (with_fields page fields) ≡ 4096
+unfolding with_fields all_fit
+long_fields page [] long h = long
+long_fields page (field ∷ fields) long h =
+    let parts = both (fits field) (all_fit fields) h in
+    long_fields (with_field page field) fields (long_field page field long parts.0) parts.1
 
 -- a field more
 pub fit_more : (fields : List Field) (i : ℕ) (d : Field) → i < length fields → all_fit (drop i fields) ≡ true

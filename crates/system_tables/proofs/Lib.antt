@@ -1,3 +1,4 @@
 pub mod ConsoleLemmas
 pub mod FieldLemmas
+pub mod LawLemmas
 pub mod MemoryLemmas

@@ -1,15 +1,15 @@
 -- The two pages of a layout's RAM.
-use Rattle.std.proofs.Common.{◌≡◌, ℕ, zero, suc, ◌+◌, ◌*◌, ◌-◌, ◌/◌, ◌%◌, ◌^◌, ◌≤◌, ◌<◌, Bool, true, false, List, length, get_or, refl, sym, ap, subst, ◌∙◌, arith, take, drop, replicate, [], ◌∷◌, ◌++◌, Some, length-append, length-drop}
-use Rattle.std.specs.Prelude.{slice_get, slice_set, not, ◌&&◌, ◌==◌, Result, Ok, Err}
+use Rattle.std.proofs.Common.{◌≡◌, ℕ, zero, suc, ◌+◌, ◌*◌, ◌-◌, ◌/◌, ◌^◌, ◌≤◌, ◌<◌, Bool, true, false, List, length, get_or, refl, sym, ap, subst, ◌∙◌, arith, [], ◌∷◌, Some, length-append, length-drop}
+use Rattle.std.specs.Prelude.{slice_get, slice_set, Result, Ok, Err}
 use Rattle.std.proofs.lemmas.Bool.Decides.{nat_tests}
 use Rattle.std.proofs.lemmas.List.{places as places_in, length-replicate, length-take}
 use Rattle.std.proofs.lemmas.Bool.{false≢true}
 use Rattle.std.proofs.lemmas.Option.{slice_get-get_or}
 use Rattle.page_alloc.specs.declared.layout.Layout.{Layout}
-use Rattle.page_alloc.specs.Layout.{IsRam, IsLayout, layout_at, end_of}
-use Rattle.guest_memory.specs.Lists.{filled, count_true}
+use Rattle.page_alloc.specs.Layout.{IsLayout, layout_at, end_of}
+use Rattle.guest_memory.specs.Lists.{filled}
 use Rattle.guest_memory.specs.Pages.{Pages, Whole, InPage, page_of, is_touched, or_false}
-use Rattle.guest_memory.specs.Changes.{put_part, reserved, lacks, PartGives, ReserveGives, has_pages}
+use Rattle.guest_memory.specs.Changes.{put_part, reserved, ReserveGives}
 use Rattle.guest_memory.specs.declared.rights.PutEnd.{PutEnd}
 use Rattle.guest_memory.specs.declared.rights.PutEnd.TheVariants.{Outside, Frames, Memory}
 use Rattle.system_tables.specs.Memory.{IsRamOf, with_room, RoomGives}

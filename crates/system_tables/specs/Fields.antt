@@ -1,5 +1,5 @@
 -- Numbers in the bytes of a page, the least byte first, and the CRC of a table: UEFI 2.10, 4.2.
-use Rattle.std.specs.Prelude.{ℕ, zero, suc, ◌+◌, ◌*◌, ◌%◌, ◌^◌, ◌&&◌, nat_le, Bool, true, List, [], ◌∷◌, length, take, drop}
+use Rattle.std.specs.Prelude.{ℕ, zero, suc, ◌+◌, ◌*◌, ◌%◌, ◌^◌, ◌&&◌, nat_le, Bool, true, List, [], ◌∷◌, take, drop}
 use Rattle.uh_base.specs.LittleEndian.{low_bytes}
 use Rattle.uh_base.specs.Crc.{crc_of}
 use Rattle.guest_memory.specs.Lists.{written_over}

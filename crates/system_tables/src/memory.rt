@@ -1,7 +1,7 @@
 //! The tables in guest memory.
 #![tactic(auto)]
 
-ghost use Rattle.std.specs.Prelude.{◌≡◌, ◌+◌, ◌≤◌, length, true, OnOk};
+ghost use Rattle.std.specs.Prelude.{◌≡◌, ℕ, ◌+◌, ◌≤◌, length, true, OnOk};
 ghost use Rattle.guest_memory.specs.Pages.{InPage, page_of, is_touched, bytes_of, rights_at};
 ghost use Rattle.guest_memory.specs.Runs.{with_bytes};
 ghost use Rattle.guest_memory.specs.Changes.{put_part};
@@ -16,12 +16,14 @@ use page_alloc::Layout;
 const PAGE: usize = 4096;
 
 /// Puts the bytes of a touched page.
+#[tactic(auto, using(crate::proofs::MemoryLemmas::still_touched))]
 fn put_page(memory: &mut GuestMemory, at: u64, page: &[u8])
     requires inside { InPage memory.old at 4096 }
     requires long { length page.now ≡ 4096 }
     requires touched { is_touched memory.old (page_of memory.old at) ≡ true }
     ensures after { memory.new ≡ put_part memory.old at page.now }
     ensures bytes { bytes_of memory.new ≡ with_bytes (bytes_of memory.old) at page.now }
+    ensures touched { (page : ℕ) → is_touched memory.old page ≡ true → is_touched memory.new page ≡ true }
     ensures rights { rights_at memory.new ≡ rights_at memory.old }
     ensures base { memory.new.base ≡ memory.old.base }
     ensures pages { memory.new.pages ≡ memory.old.pages }
@@ -59,6 +61,7 @@ fn blank_page() -> [u8; PAGE]
 pub fn build_tables(layout: &Layout, memory: &mut GuestMemory) -> Result<(), PutEnd>
     requires { IsRamOf layout.now memory.old }
     ensures gives { BuildGives result layout.now memory.old memory.new }
+    ensures touched { OnOk result (is_touched memory.new (page_of memory.new layout.now.system) ≡ true) }
     ensures bytes { OnOk result (bytes_of memory.new ≡ with_bytes (with_bytes (bytes_of memory.old) layout.now.boot (boot_page layout.now)) layout.now.system (system_page layout.now)) }
     ensures rights { rights_at memory.new ≡ rights_at memory.old }
     ensures base { memory.new.base ≡ memory.old.base }
@@ -80,6 +83,7 @@ pub fn build_tables(layout: &Layout, memory: &mut GuestMemory) -> Result<(), Put
 pub fn clear_boot(layout: &Layout, memory: &mut GuestMemory)
     requires ram { IsRamOf layout.now memory.old }
     requires touched { is_touched memory.old (page_of memory.old layout.now.system) ≡ true }
+    ensures touched { is_touched memory.new (page_of memory.new layout.now.system) ≡ true }
     ensures after { memory.new ≡ put_part memory.old layout.now.system (boot_cleared (page_bytes memory.old layout.now.system)) }
     ensures bytes { bytes_of memory.new ≡ with_bytes (bytes_of memory.old) layout.now.system (boot_cleared (page_bytes memory.old layout.now.system)) }
     ensures rights { rights_at memory.new ≡ rights_at memory.old }
@@ -98,6 +102,7 @@ pub fn clear_boot(layout: &Layout, memory: &mut GuestMemory)
 pub fn move_tables(layout: &Layout, memory: &mut GuestMemory, system_virt: u64, slots_virt: u64)
     requires ram { IsRamOf layout.now memory.old }
     requires touched { is_touched memory.old (page_of memory.old layout.now.system) ≡ true }
+    ensures touched { is_touched memory.new (page_of memory.new layout.now.system) ≡ true }
     ensures after { memory.new ≡ put_part memory.old layout.now.system (moved system_virt slots_virt (page_bytes memory.old layout.now.system)) }
     ensures bytes { bytes_of memory.new ≡ with_bytes (bytes_of memory.old) layout.now.system (moved system_virt slots_virt (page_bytes memory.old layout.now.system)) }
     ensures rights { rights_at memory.new ≡ rights_at memory.old }

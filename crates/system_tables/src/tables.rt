@@ -2,7 +2,7 @@
 #![tactic(auto)]
 
 ghost use Rattle.std.specs.Prelude.{◌≡◌, ◌+◌, ◌*◌, ◌≤◌, length};
-ghost use Rattle.system_tables.specs.Fields.{with_fields};
+ghost use Rattle.system_tables.specs.Fields.{slot_pointers, with_fields};
 ghost use Rattle.system_tables.specs.Tables.{header, system_table, runtime_table, units_from, vendor_text, boot_table, console, mode, zeros, system_page, boot_page, boot_cleared, moved_fields, moved};
 
 use crate::fields::{
@@ -62,6 +62,20 @@ fn write_system_table(page: &mut [u8], layout: &Layout)
     );
 }
 
+/// Writes the pointers of the runtime services.
+fn write_runtime_slots(page: &mut [u8], slots: u64)
+    requires { length page.old ≡ 4096 }
+    ensures { page.new ≡ with_fields page.old (slot_pointers (RUNTIME_TABLE + HEADER_END) slots RUNTIME_SLOT RUNTIME_COUNT) }
+{
+    write_slots(
+        page,
+        RUNTIME_TABLE + HEADER_END,
+        slots,
+        RUNTIME_SLOT,
+        RUNTIME_COUNT,
+    );
+}
+
 #[tactic(auto, unfolding(crate::specs::Tables::runtime_table, crate::specs::Fields::with_fields, crate::specs::Fields::all_fit))]
 fn write_runtime_table(page: &mut [u8], slots: u64)
     requires { length page.old ≡ 4096 }
@@ -75,13 +89,7 @@ fn write_runtime_table(page: &mut [u8], slots: u64)
             RUNTIME_TABLE_SIZE as u64,
         ),
     );
-    write_slots(
-        page,
-        RUNTIME_TABLE + HEADER_END,
-        slots,
-        RUNTIME_SLOT,
-        RUNTIME_COUNT,
-    );
+    write_runtime_slots(page, slots);
 }
 
 /// Writes a text in 16-bit units.
@@ -209,13 +217,7 @@ pub(crate) fn move_fields(page: &mut [u8], system: u64, slots: u64)
         page,
         pointer(RUNTIME_SERVICES, system.wrapping_add(RUNTIME_TABLE as u64)),
     );
-    write_slots(
-        page,
-        RUNTIME_TABLE + HEADER_END,
-        slots,
-        RUNTIME_SLOT,
-        RUNTIME_COUNT,
-    );
+    write_runtime_slots(page, slots);
     write_crc(page, SYSTEM_TABLE, SYSTEM_TABLE_SIZE);
     write_crc(page, RUNTIME_TABLE, RUNTIME_TABLE_SIZE);
 }

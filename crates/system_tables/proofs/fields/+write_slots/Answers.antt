@@ -1,5 +1,4 @@
-use Rattle.std.proofs.Common.{◌∙◌, ap, arith}
-use Rattle.system_tables.specs.Fields.{with_field, with_fields, slot_pointers}
+use Rattle.std.proofs.Common.{arith}
 use Rattle.system_tables.proofs.FieldLemmas.{slots_more, no_slots}
 use Rattle.system_tables.proofs.fields.+write_slots.Goals as goal
 

@@ -1,4 +1,3 @@
-use Rattle.std.proofs.Common.{length, ◌≡◌, ◌∙◌}
 use Rattle.system_tables.proofs.FieldLemmas.{fit_more, fields_more, no_fields}
 use Rattle.system_tables.proofs.fields.write_fields.Goals as goal
 

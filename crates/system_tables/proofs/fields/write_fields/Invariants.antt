@@ -1,4 +1,4 @@
-use Rattle.std.proofs.Common.{◌≡◌, drop, length, true}
+use Rattle.std.proofs.Common.{◌≡◌, drop, true}
 use Rattle.system_tables.specs.Fields.{all_fit, with_fields}
 use Rattle.system_tables.proofs.fields.write_fields.Given as goal
 
