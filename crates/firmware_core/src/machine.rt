@@ -219,6 +219,13 @@ impl Machine {
         Ok(Ok(image))
     }
 
+    /// The program counter.
+    pub fn pc(&self) -> u64
+        ensures { result ≡ self.now.pc }
+    {
+        self.regs.pc
+    }
+
     /// The loaded image.
     pub fn image(&self) -> Option<LoadedImage>
         ensures { result ≡ self.now.image }

@@ -6,3 +6,5 @@ pub mod Texts
 pub mod Outside
 pub mod Gives
 pub mod Views
+pub mod Jobs
+pub mod ScriptRuns

@@ -17,7 +17,7 @@ use std::alloc::{AllocError, Global};
 use uh_base::{FileEnd, Files, Sink};
 
 /// The most bytes that a file of code has.
-const FILE_LIMIT: usize = 0x40_0000;
+pub const FILE_LIMIT: usize = 0x40_0000;
 
 /// The answer for a run that ended so.
 fn ending_of(cause: FlatCause) -> Status

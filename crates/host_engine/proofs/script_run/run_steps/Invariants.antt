@@ -1,0 +1,10 @@
+use Rattle.std.proofs.Common.{drop, ◌≤◌}
+use Rattle.host_engine.specs.ScriptRuns.{run_of, run_from}
+use Rattle.host_engine.proofs.StepLemmas.{SoFar}
+use Rattle.host_engine.proofs.script_run.run_steps.Given as goal
+
+abbrev pub invariant-loop-step : goal.invariant-loop-step
+invariant-loop-step g l = record {
+  so_far : SoFar (run_of l.inputs l.steps) (run_from l.inputs l.running (drop l.step-index l.steps)) (g.O.Sink.written l.fn.out) (g.O.Sink.written l.out);
+  never : g.O.Sink.faults l.fn.out ≤ g.O.Sink.faults l.out;
+}

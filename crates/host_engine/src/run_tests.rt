@@ -1,0 +1,143 @@
+//! Runs of scripts over images in memory.
+use crate::{Input, Outcome, run_script};
+use host_script::read_script;
+use std::alloc::Global;
+use std::process::Abort;
+use std::test::Fail;
+use uh_base::{Bytes, MemSink, Text};
+
+/// Writes bytes at an offset of a file.
+fn write(file: &mut Vec<u8>, at: usize, bytes: &[u8]) {
+    for (i, byte) in bytes.iter().enumerate() {
+        if at < file.len() && i < file.len() - at {
+            file[at + i] = *byte;
+        }
+    }
+}
+
+/// An image of one section, whose code stands at 0x1000 in memory and at 0x200 in the file.
+fn image(alloc: Global, code: &[u8]) -> Result<Vec<u8>, Fail> {
+    let mut file = Vec::new(alloc);
+    file.resize(1024, 0u8)?;
+    write(&mut file, 0, b"MZ");
+    write(&mut file, 0x3c, b"\x40");
+    write(&mut file, 0x40, b"PE\0\0\x64\x50\x01");
+    write(&mut file, 0x54, b"\xf0");
+    write(&mut file, 0x58, b"\x0b\x02");
+    write(&mut file, 0x68, b"\x00\x10");
+    write(&mut file, 0x78, b"\x00\x10\x00\x00\x00\x02");
+    write(&mut file, 0x90, b"\x00\x20\x00\x00\x00\x02");
+    write(&mut file, 0x9c, b"\x0a");
+    write(&mut file, 0xc4, b"\x10");
+    write(&mut file, 0x148, b".text");
+    write(
+        &mut file,
+        0x150,
+        b"\x32\x00\x00\x00\x00\x10\x00\x00\x00\x02\x00\x00\x00\x02",
+    );
+    write(&mut file, 0x16c, b"\x00\x00\x00\x60");
+    write(&mut file, 0x200, code);
+    Ok(file)
+}
+
+/// Runs a script over one image, `app`.
+fn ran(alloc: Global, script: &str, file: &[u8], fail: &[u32]) -> Result<(Outcome, MemSink), Fail> {
+    let script = read_script(alloc, script.as_bytes())?;
+    let mut out = MemSink::new(alloc, 1000, Vec::from_slice(alloc, fail)?)?;
+    let mut inputs = Vec::new(alloc);
+    inputs.push(Input {
+        name: Text::new(alloc, "app")?,
+        file: Bytes::new(alloc, file)?,
+    })?;
+    let outcome = run_script(alloc, script.step.as_slice(), inputs.as_slice(), &mut out);
+    Ok((outcome, out))
+}
+
+fn expect(rt: &impl Abort, ran: &(Outcome, MemSink), outcome: Outcome, text: &str) {
+    assert_eq!(rt; ran.0, outcome);
+    assert!(rt; ran.1.written() == text.as_bytes());
+}
+
+const SCRIPT: &str = "
+[[image]]
+name = \"app\"
+file = \"app.efi\"
+[[step]]
+do = \"load\"
+image = \"app\"
+[[step]]
+do = \"start\"
+image = \"app\"
+bound = 100
+";
+
+/// Prints `Hi` by the console of the system table, and returns 0.
+const HELLO: &[u8; 50] =
+    b"\x03\xb5\x05\x04\x97\x05\x00\x00\x93\x85\x85\x02\x83\x32\x85\x00\x13\x01\x01\xff\x23\x34\x11\x00\xe7\x80\x02\x00\x83\x30\x81\x00\x13\x01\x01\x01\x13\x05\x00\x00\x67\x80\x00\x00\x48\x00\x69\x00\x00\x00";
+
+#[test]
+fn an_image_is_loaded_prints_and_returns(rt: HostRuntime) -> Result<(), Fail> {
+    let alloc = rt.alloc();
+    let file = image(alloc, HELLO)?;
+    let whole = ran(alloc, SCRIPT, file.as_slice(), &[])?;
+    expect(
+        &rt,
+        &whole,
+        Outcome::Done,
+        "load app 0000000000000000 0000000040fba000 2\nconsole Hi\nstart app 0000000000000000 13\nend\n",
+    );
+    let cut = ran(
+        alloc,
+        SCRIPT,
+        file.as_slice().get(..367).unwrap_or(b"".as_slice()),
+        &[],
+    )?;
+    expect(
+        &rt,
+        &cut,
+        Outcome::Done,
+        "load app 8000000000000001 0000000000000000 0\nstart app 8000000000000002 0\nend\n",
+    );
+    let unput = ran(alloc, SCRIPT, file.as_slice(), &[1])?;
+    expect(
+        &rt,
+        &unput,
+        Outcome::Write,
+        "load app 0000000000000000 0000000040fba000 2\n",
+    );
+    Ok(())
+}
+
+#[test]
+fn a_trap_and_the_bound_halt_a_run(rt: HostRuntime) -> Result<(), Fail> {
+    let alloc = rt.alloc();
+    let rows: [(&[u8], &str); 4] = [
+        // ebreak
+        (
+            b"\x73\x00\x10\x00",
+            "halt ebreak 0000000040fbb000 0000000000000000\n",
+        ),
+        // jr zero
+        (
+            b"\x67\x00\x00\x00",
+            "halt fetch 0000000000000000 0000000000000000\n",
+        ),
+        // j to itself
+        (
+            b"\x6f\x00\x00\x00",
+            "halt bound 0000000040fbb000 0000000000000000\n",
+        ),
+        // sd zero, 0(t0), into the section that may not be written: auipc t0, 0 first
+        (
+            b"\x97\x02\x00\x00\x23\xb0\x02\x00",
+            "halt store 0000000040fbb004 0000000040fbb000\n",
+        ),
+    ];
+    for (code, line) in rows.iter() {
+        let file = image(alloc, code)?;
+        let halted = ran(alloc, SCRIPT, file.as_slice(), &[])?;
+        let text = format!(in alloc; "load app 0000000000000000 0000000040fba000 2\n{}", *line)?;
+        expect(&rt, &halted, Outcome::Halted, text.as_str());
+    }
+    Ok(())
+}
