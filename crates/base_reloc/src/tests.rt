@@ -10,7 +10,6 @@ use pe_image::Image;
 use std::alloc::{AllocError, Global};
 use std::process::Abort;
 use std::test::Fail;
-use std::time::CpuClock;
 
 /// An image of so many bytes, without sections, and with base relocations at an offset.
 fn image_of(alloc: Global, size: u32, reloc_at: u32, reloc_len: u32) -> Image
@@ -218,14 +217,8 @@ fn large_of(alloc: Global, size: usize, pages: u32) -> Result<Vec<u8>, AllocErro
     Ok(placed)
 }
 
-/// Reads the blocks of so many pages, and answers how many sites there are and how many milliseconds of the
-/// processor that took.
-fn read_large(
-    rt: &(impl Abort + CpuClock),
-    alloc: Global,
-    size: u32,
-    pages: u32,
-) -> Result<(usize, u128), Fail>
+/// Reads the blocks of so many pages, and answers how many sites there are.
+fn read_large(rt: &impl Abort, alloc: Global, size: u32, pages: u32) -> Result<usize, Fail>
     requires low { 0x2000 ≤ size }
     requires high { size ≤ 0x800000 }
     requires pages { 0x1000 + 2056 * pages ≤ size }
@@ -234,19 +227,13 @@ fn read_large(
     let bytes = placed.as_slice();
     assert!(rt; bytes.len() == (size as usize + 4095) / 4096 * 4096);
     let image = image_of(alloc, size, 0x1000, 2056 * pages);
-    let before = rt.thread_cpu_time()?;
     let sites = read_sites(alloc, &image, bytes)?;
-    let after = rt.thread_cpu_time()?;
-    Ok((
-        sites.len(),
-        after.as_millis().saturating_sub(before.as_millis()),
-    ))
+    Ok(sites.len())
 }
 
 #[test]
 fn a_table_of_3_mib(rt: HostRuntime) -> Result<(), Fail> {
-    let (sites, milliseconds) = read_large(&rt, rt.alloc(), 0x80_0000, 1530)?;
-    assert!(rt; sites == 1530 * 1024);
-    assert!(rt; milliseconds < 1000, "{milliseconds} ms");
+    let sites = read_large(&rt, rt.alloc(), 0x80_0000, 1530)?;
+    assert_eq!(rt; sites, 1530 * 1024);
     Ok(())
 }
