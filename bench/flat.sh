@@ -1,5 +1,5 @@
 #!/usr/bin/env bash
-# Counts the host instructions that `uefihost flat` takes per guest step, for two loops that it makes itself, and
+# Counts the host instructions that `uefihost flat` takes per guest step, for loops that it makes itself, and
 # the time of a start. It measures and judges nothing; figures seen are in docs/SPEED.md.
 set -euo pipefail
 
@@ -17,6 +17,14 @@ trap 'rm -rf "$work"' EXIT
 printf '\x97\x02\x00\x00\x13\x05\x15\x00\x93\x85\x25\x00\x13\x06\x36\x00\x67\x80\x42\x00' >"$work/addi_jalr"
 # auipc t0, 0; ld a0, 256(t0); sd a0, 264(t0); jalr zero, 4(t0)
 printf '\x97\x02\x00\x00\x03\xb5\x02\x10\x23\xb4\xa2\x10\x67\x80\x42\x00' >"$work/ld_sd"
+# addi, xor, slli, add, sltu, srai, addiw, and, j
+printf '\x13\x05\x15\x00\xb3\xc5\xa5\x00\x13\x16\x35\x00\xb3\x06\xb6\x00\x33\xb7\xc6\x00\x93\xd7\x26\x40\x1b\x88\x77\x00\xb3\x78\xd8\x00\x6f\xf0\x1f\xfe' >"$work/register_work"
+# ld, sd, lw, sb, lhu, sw, lb, sh of one page, j
+printf '\x17\x04\x00\x00\x13\x04\x04\x40\x03\x35\x04\x00\x23\x34\xa4\x00\x83\x25\x44\x00\xa3\x08\xb4\x00\x03\x56\x24\x00\x23\x2a\xc4\x00\x83\x06\x14\x00\x23\x1d\xd4\x00\x6f\xf0\x1f\xfe' >"$work/loads_stores"
+# mul, div, rem, mulhu, divuw, mulw, mulh, remu, j
+printf '\x37\x35\x00\x00\x1b\x05\x95\x03\x93\x05\x90\xff\x33\x06\xb5\x02\xb3\x46\xb6\x02\x33\x67\xa6\x02\xb3\x37\xa6\x02\x3b\x58\xa6\x02\xbb\x08\xf6\x02\xb3\x12\xf6\x02\x33\x73\xb6\x02\x6f\xf0\x1f\xfe' >"$work/mul_div"
+# a call, a return, branches and work in between, mostly in 16 bits
+printf '\x01\x44\xef\x00\x20\x01\x05\x04\x93\x75\x34\x00\x91\xc1\x22\x85\x6d\xf8\xc5\xbf\x05\x05\x2a\x96\x11\x8d\x05\x81\x82\x80' >"$work/calls_branches"
 
 # the host instructions of a run of so many steps
 instructions() {
@@ -25,7 +33,7 @@ instructions() {
         sed -n 's/.*Collected *: *//p'
 }
 
-for loop in addi_jalr ld_sd; do
+for loop in addi_jalr ld_sd register_work loads_stores mul_div calls_branches; do
     few=$(instructions "$work/$loop" 1000)
     many=$(instructions "$work/$loop" 1001000)
     echo "$loop: $(((many - few) / 1000000)) host instructions a step"

@@ -12,6 +12,7 @@ use crate::view::View;
 use guest_memory::{GuestMemory, Rights};
 use rv_step::Access;
 
+#[inline(always)]
 fn allows(rights: Rights, kind: Access) -> bool
     ensures { result ≡ may kind (Some rights) }
 {
@@ -24,6 +25,7 @@ fn allows(rights: Rights, kind: Access) -> bool
 
 /// The place of so many bytes, if they lie in one window and one page that allows the access.
 #[tactic(auto, using(crate::proofs::PageRun::one_page_is))]
+#[inline(always)]
 pub(crate) fn one_page(
     memory: &GuestMemory,
     view: &View,
@@ -149,6 +151,7 @@ fn load_slowly(
 
 /// The number of so many bytes at an address, or the first address that doesn't allow the access.
 #[tactic(auto, using(crate::proofs::RunLemmas::fast_load))]
+#[inline(always)]
 pub(crate) fn load_through(
     memory: &GuestMemory,
     view: &View,

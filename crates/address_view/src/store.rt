@@ -341,6 +341,7 @@ fn store_allowed(
 
 /// Stores a number in one page.
 #[tactic(auto, using(crate::proofs::RunLemmas::fast_content, crate::proofs::RunLemmas::lacks_is, crate::proofs::RunLemmas::unsure))]
+#[inline(always)]
 fn store_page(
     memory: &mut GuestMemory,
     view: &View,
@@ -368,6 +369,7 @@ fn store_page(
 
 /// Stores a number, or changes no byte.
 #[tactic(auto, using(crate::proofs::RunLemmas::fast_allowed, crate::proofs::StoreLaws::rights_of_stored))]
+#[inline(always)]
 pub(crate) fn store_through(
     memory: &mut GuestMemory,
     view: &View,

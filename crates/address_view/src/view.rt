@@ -60,6 +60,7 @@ impl View {
     }
 
     /// What is so of every view.
+    #[inline(always)]
     pub fn whole(&self)
         ensures { AreWindows self.now }
     {
@@ -99,6 +100,7 @@ impl View {
 
     /// The window that shows an address.
     #[tactic(auto, using(crate::proofs::ViewLemmas::window_fits))]
+    #[inline(always)]
     pub fn window(&self, at: u64) -> Option<Window>
         ensures found { result ≡ window_at self.now at }
         ensures fits { IfSome result (λ window. Fits window × (shows window at ≡ true)) }
@@ -108,6 +110,7 @@ impl View {
 }
 
 #[tactic(auto, unfolding(crate::specs::Windows::window_at))]
+#[inline(always)]
 fn find(windows: &[Window], at: u64) -> Option<Window>
     ensures { result ≡ window_at windows.now at }
 {

@@ -42,11 +42,13 @@ impl<'m, 'v> Bus for Viewed<'m, 'v> {
 
     ghost same_self = { λ a. (refl, refl, refl, refl) };
 
+    #[inline(always)]
     fn load(&self, at: u64, width: u8) -> Result<u64, u64> {
         load_through(self.memory, self.view, at, width, Access::Load)
     }
 
     #[tactic(auto, using(crate::proofs::StoreLaws::bytes_stored, crate::proofs::StoreLaws::bytes_kept, crate::proofs::StoreLaws::rights_stored))]
+    #[inline(always)]
     fn store(&mut self, at: u64, width: u8, value: u64) -> Result<(), BusEnd> {
         let view: &View = self.view;
         view.whole();
@@ -54,6 +56,7 @@ impl<'m, 'v> Bus for Viewed<'m, 'v> {
         store_through(self.memory, view, at, width, value)
     }
 
+    #[inline(always)]
     fn fetch(&self, at: u64) -> Result<u16, u64> {
         match load_through(self.memory, self.view, at, 2, Access::Fetch) {
             Ok(half) => Ok(half as u16),

@@ -76,12 +76,14 @@ impl GuestMemory {
     }
 
     /// What is so of every memory.
+    #[inline(always)]
     pub fn whole(&self)
         ensures { Whole self.now }
     {
         let _ = &self.base;
     }
 
+    #[inline(always)]
     fn holds(&self, at: u64) -> bool
         ensures { result ≡ holds self.now at }
     {
@@ -102,6 +104,7 @@ impl GuestMemory {
 
     /// The rights at an address, None outside.
     #[tactic(auto, unfolding(crate::specs::Pages::rights_at))]
+    #[inline(always)]
     pub fn rights_at(&self, at: u64) -> Option<Rights>
         ensures { result ≡ rights_at self.now at }
     {
@@ -128,6 +131,7 @@ impl GuestMemory {
     }
 
     /// Whether a page is touched, counted from the base.
+    #[inline(always)]
     pub fn is_touched(&self, page: u32) -> bool
         requires { page < self.now.pages }
         ensures { result ≡ is_touched self.now page }
@@ -153,6 +157,7 @@ impl GuestMemory {
         Vec::from_slice(alloc, &self.touched)
     }
 
+    #[inline(always)]
     fn touch(&mut self, page: u32) -> Result<(), PutEnd>
         requires { page < self.old.pages }
         ensures { TouchGives result self.old self.new page }
@@ -301,6 +306,7 @@ impl GuestMemory {
     }
 
     /// The number of 1, 2, 4 or 8 bytes in one page, the least byte first.
+    #[inline(always)]
     pub fn number(&self, at: u64, width: u8) -> u64
         requires inside { InPage self.now at width }
         requires width { IsTrue (is_width width) }
@@ -349,6 +355,7 @@ impl GuestMemory {
 
     /// Puts a number of 1, 2, 4 or 8 bytes in one page, the least byte first, and touches the page.
     #[tactic(auto, using(crate::proofs::NumberLemmas::bytes_numbered, crate::proofs::NumberLemmas::rights_numbered, crate::proofs::NumberLemmas::base_numbered, crate::proofs::NumberLemmas::pages_numbered))]
+    #[inline(always)]
     pub fn put_number(&mut self, at: u64, width: u8, value: u64) -> Result<(), PutEnd>
         requires inside { InPage self.old at width }
         requires width { IsTrue (is_width width) }
@@ -362,6 +369,7 @@ impl GuestMemory {
         self.put_in_page(at, width, value)
     }
 
+    #[inline(always)]
     fn put_in_page(&mut self, at: u64, width: u8, value: u64) -> Result<(), PutEnd>
         requires inside { InPage self.old at width }
         requires width { IsTrue (is_width width) }

@@ -50,7 +50,7 @@ fn expect(rt: &impl Abort, ran: &Outcome, status: Status, out: &str, err: &str) 
 
 #[test]
 fn flat_prints_cause_pc_steps_and_a0(rt: HostRuntime) -> Result<(), Fail> {
-    let rows: [(&[u8], &str, Status, &str); 6] = [
+    let rows: [(&[u8], &str, Status, &str); 7] = [
         (
             b"\x73\x00\x10\x00",
             "1",
@@ -74,6 +74,12 @@ fn flat_prints_cause_pc_steps_and_a0(rt: HostRuntime) -> Result<(), Fail> {
             "5",
             Status::Halted,
             "flat fetch 0000000000000000 1 0000000000000000\n",
+        ),
+        (
+            b"\x73\x00\x00\x00",
+            "1",
+            Status::Halted,
+            "flat ecall 0000000040000000 0 0000000000000000\n",
         ),
         // li a0, 5; ebreak, both in 16 bits
         (
