@@ -1,12 +1,12 @@
 -- A job under way: what was put, and what is still to come.
-use Rattle.std.proofs.Common.{◌≡◌, ℕ, zero, suc, ◌+◌, List, [], ◌++◌, Option, Some, None, refl, sym, ap, subst, ◌∙◌, append_assoc, append-nil, arith}
+use Rattle.std.proofs.Common.{◌≡◌, ℕ, zero, suc, ◌+◌, List, [], ◌++◌, Option, Some, None, refl, sym, ap, ◌∙◌, append_assoc, append-nil, arith}
 use Rattle.record_text.specs.declared.line.Line.{Line}
 use Rattle.record_text.specs.declared.cause.Cause.TheVariants as causes
 use Rattle.uh_base.specs.Told.{grown, GrownByPart}
 use Rattle.firmware_core.specs.Machines.{State}
 use Rattle.firmware_core.specs.Turns.{turn_of}
 use Rattle.host_engine.specs.declared.job.JobEnd.{JobEnd}
-use Rattle.host_engine.specs.declared.job.JobEnd.TheVariants.{Returned, Halted}
+use Rattle.host_engine.specs.declared.job.JobEnd.TheVariants.{Halted}
 use Rattle.host_engine.specs.Jobs.{Job, Ended, after_turn, joined, job_of, lines_in, end_in, steps_at, bytes_of}
 use Rattle.host_engine.proofs.LineLemmas.{grown-nil, put_more, part_more}
 

@@ -5,3 +5,6 @@ pub mod RunLemmas
 pub mod LineLemmas
 pub mod JobLemmas
 pub mod StepLemmas
+pub mod InputLemmas
+pub mod FilesLemmas
+pub mod CompleteLemmas

@@ -1,5 +1,5 @@
 -- Steps under way: what was put, and what is still to come.
-use Rattle.std.proofs.Common.{◌≡◌, ℕ, List, [], ◌∷◌, ◌++◌, Option, Some, Bool, true, false, length, get_or, drop, ◌<◌, ◌≤◌, ◌+◌, refl, sym, ap, subst, ◌∙◌, append_assoc, append-nil}
+use Rattle.std.proofs.Common.{◌≡◌, ℕ, List, [], ◌∷◌, ◌++◌, Option, Bool, true, false, length, get_or, drop, ◌<◌, ◌≤◌, ◌+◌, refl, sym, ap, subst, ◌∙◌, append_assoc, append-nil}
 use Rattle.std.proofs.lemmas.List.{drop_more, drop_all}
 use Rattle.record_text.specs.declared.line.Line.{Line}
 use Rattle.record_text.specs.declared.line.Line.TheVariants as lines
@@ -11,10 +11,10 @@ use Rattle.firmware_core.specs.Loads.{begun}
 use Rattle.host_engine.specs.declared.job.JobEnd.{JobEnd}
 use Rattle.host_engine.specs.declared.script_run.Input.{Input}
 use Rattle.host_engine.specs.declared.script_run.Running.{Running}
-use Rattle.host_engine.specs.Jobs.{Job, Ended, job_of, line_bytes, bytes_of}
+use Rattle.host_engine.specs.Jobs.{Ended, job_of, line_bytes, bytes_of}
 use Rattle.host_engine.specs.ScriptRuns.{Run, Ran, Stepped, Made, then_run, step_of, run_from, image_run, last_line, left_behind, is_halt}
 use Rattle.host_engine.proofs.PutLemmas.{part_behind, part_before, grown-grown}
-use Rattle.host_engine.proofs.LineLemmas.{grown-nil, bytes_of-last, bytes_of-append, put_more, part_more}
+use Rattle.host_engine.proofs.LineLemmas.{grown-nil, bytes_of-last, put_more, part_more}
 
 -- ---- a run of an image
 

@@ -4,7 +4,6 @@ use Rattle.std.specs.List.{flat_map}
 use Rattle.rv_step.specs.declared.bus.Access.TheVariants as access
 use Rattle.rv_step.specs.declared.ends.Trap.{Trap}
 use Rattle.rv_step.specs.declared.ends.Trap.TheVariants as traps
-use Rattle.record_text.specs.declared.cause.Cause.{Cause}
 use Rattle.record_text.specs.declared.cause.Cause.TheVariants as causes
 use Rattle.record_text.specs.declared.line.Line.{Line}
 use Rattle.record_text.specs.declared.line.Line.TheVariants as lines

@@ -8,3 +8,7 @@ pub mod Gives
 pub mod Views
 pub mod Jobs
 pub mod ScriptRuns
+pub mod Refusals
+pub mod Inputs
+pub mod InputGives
+pub mod RunGives

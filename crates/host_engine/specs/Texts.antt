@@ -5,15 +5,17 @@ abbrev pub help_text : List ℕ
 help_text =
     codes "uefihost: runs RISC-V code and prints what it came to\n"
     ++ codes "\n"
+    ++ codes "uefihost run SCRIPT        run the steps of a script\n"
     ++ codes "uefihost flat FILE BOUND   put FILE at 0x40000000 and make at most BOUND steps\n"
     ++ codes "uefihost --help            print this text\n"
     ++ codes "uefihost --version         print the version\n"
     ++ codes "\n"
+    ++ codes "SCRIPT is a TOML document of at most 1048576 bytes that names images and steps.\n"
     ++ codes "FILE is at most 4194304 bytes of RV64IMC code, BOUND a number from 1 to 50000000.\n"
-    ++ codes "The line is: flat CAUSE PC STEPS A0, with PC and A0 in hexadecimal. CAUSE is ebreak,\n"
+    ++ codes "The line of flat is: flat CAUSE PC STEPS A0, with PC and A0 in hexadecimal. CAUSE is ebreak,\n"
     ++ codes "ecall, illegal, load, store, fetch or bound.\n"
-    ++ codes "Status: 0 ebreak, 1 another cause, 2 usage, 4 FILE can't be read, 5 the output fails,\n"
-    ++ codes "6 no memory, 7 FILE is too long.\n"
+    ++ codes "Status: 0 ebreak or end, 1 another cause or a halt, 2 usage, 3 the script is refused,\n"
+    ++ codes "4 a file can't be read, 5 the output fails, 6 no memory, 7 a file is too long.\n"
 
 abbrev pub version_text : List ℕ
 version_text = codes "uefihost 0.1.0\n"

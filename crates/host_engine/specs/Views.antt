@@ -4,16 +4,17 @@ use Rattle.host_engine.specs.declared.command.Command as code
 use Rattle.host_engine.specs.declared.command.Command.TheVariants as commands
 use Rattle.host_engine.specs.declared.flat_run.FlatEnd.{FlatEnd}
 use Rattle.host_engine.specs.declared.status.Status.{Status}
-use Rattle.host_engine.specs.declared.status.Status.TheVariants.{Done, Halted, Words, Read, Size, Write, Memory}
+use Rattle.host_engine.specs.declared.status.Status.TheVariants.{Done, Halted, Words, Script, Read, Size, Write, Memory}
 use Rattle.host_engine.specs.declared.flat_run.FlatCause.{FlatCause}
 use Rattle.host_engine.specs.declared.flat_run.FlatCause.TheVariants as causes
 use Rattle.host_engine.specs.FlatRuns.{Cause, Bound, Trapped, End}
-use Rattle.host_engine.specs.Words.{Command, Help, Version, Flat}
+use Rattle.host_engine.specs.Words.{Command, Help, Version, Flat, Run}
 
 abbrev pub asked : code.Command → Command
 asked commands.Help = Help
 asked commands.Version = Version
 asked (commands.Flat name bound) = Flat name.now bound
+asked (commands.Run script) = Run script.now
 
 abbrev pub cause_of : FlatCause → Cause
 cause_of causes.Bound = Bound
@@ -28,6 +29,7 @@ abbrev pub IsEnding : Status → Type 0
 IsEnding Done = Unit {0}
 IsEnding Halted = Unit {0}
 IsEnding Words = ⊥
+IsEnding Script = ⊥
 IsEnding Read = ⊥
 IsEnding Size = ⊥
 IsEnding Write = ⊥

@@ -8,6 +8,7 @@ pub data Command : Type 0 where
   Help : Command
   Version : Command
   Flat : (name : List ℕ) (bound : ℕ) → Command
+  Run : (script : List ℕ) → Command
 
 -- a word that stands alone
 abbrev pub alone : List ℕ → Option Command
@@ -21,8 +22,9 @@ flat_with name (Some n) = if nat_le 1 n && nat_le n 50000000 then Some (Flat nam
 abbrev pub word : List (List ℕ) → ℕ → List ℕ
 word words i = slice_index_or words i []
 
--- `--help`, `--version` or `flat FILE BOUND`; no other words have a form
+-- `--help`, `--version`, `run SCRIPT` or `flat FILE BOUND`; no other words have a form
 unfoldable pub command_of : List (List ℕ) → Option Command
 command_of words =
     if length words == 1 then alone (word words 0)
-    else (if length words == 3 && bytes_eq (word words 0) (codes "flat") then flat_with (word words 1) (decimal_number (word words 2)) else None)
+    else (if length words == 2 && bytes_eq (word words 0) (codes "run") then Some (Run (word words 1))
+    else (if length words == 3 && bytes_eq (word words 0) (codes "flat") then flat_with (word words 1) (decimal_number (word words 2)) else None))

@@ -17,6 +17,8 @@ pub enum Command<'a> {
     Version,
     /// A run of a file's bytes, of at most `bound` steps.
     Flat { name: &'a str, bound: u64 },
+    /// The run of a script's file.
+    Run { script: &'a str },
 }
 
 fn word_at(words: &[String], i: usize) -> &str
@@ -46,6 +48,11 @@ pub fn read_words(words: &[String]) -> Option<Command<'_>>
 {
     if words.len() == 1 {
         return alone(word_at(words, 0));
+    }
+    if words.len() == 2 && word_at(words, 0) == "run" {
+        return Some(Command::Run {
+            script: word_at(words, 1),
+        });
     }
     if words.len() != 3 || word_at(words, 0) != "flat" {
         return None;

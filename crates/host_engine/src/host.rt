@@ -4,13 +4,14 @@
 ghost use Rattle.std.specs.Prelude.{◌≡◌, map, string_bytes};
 ghost use Rattle.host_engine.specs.Outside.{outside};
 ghost use Rattle.host_engine.specs.Texts.{help_text, version_text};
-ghost use Rattle.host_engine.specs.Gives.{TextGives, CommandGives, HostGives, IsComplete, ErrGives, name_in};
+ghost use Rattle.host_engine.specs.Gives.{TextGives, CommandGives, HostGives, IsComplete, CommandSays, name_in};
 ghost use Rattle.host_engine.specs.Views.{asked};
 ghost use Rattle.host_engine.specs.Words.{command_of};
 
 use crate::command::{Command, read_words};
 use crate::flat::flat;
 use crate::message::explain;
+use crate::run::run;
 use crate::status::Status;
 use std::alloc::Global;
 use uh_base::{Files, Sink};
@@ -18,15 +19,17 @@ use uh_base::{Files, Sink};
 /// The text that explains the program.
 const HELP: &str = "uefihost: runs RISC-V code and prints what it came to
 
+uefihost run SCRIPT        run the steps of a script
 uefihost flat FILE BOUND   put FILE at 0x40000000 and make at most BOUND steps
 uefihost --help            print this text
 uefihost --version         print the version
 
+SCRIPT is a TOML document of at most 1048576 bytes that names images and steps.
 FILE is at most 4194304 bytes of RV64IMC code, BOUND a number from 1 to 50000000.
-The line is: flat CAUSE PC STEPS A0, with PC and A0 in hexadecimal. CAUSE is ebreak,
+The line of flat is: flat CAUSE PC STEPS A0, with PC and A0 in hexadecimal. CAUSE is ebreak,
 ecall, illegal, load, store, fetch or bound.
-Status: 0 ebreak, 1 another cause, 2 usage, 4 FILE can't be read, 5 the output fails,
-6 no memory, 7 FILE is too long.
+Status: 0 ebreak or end, 1 another cause or a halt, 2 usage, 3 the script is refused,
+4 a file can't be read, 5 the output fails, 6 no memory, 7 a file is too long.
 ";
 
 /// The program's name and version.
@@ -42,24 +45,6 @@ fn put_text<O: Sink>(text: &str, out: &mut O) -> Status
     }
 }
 
-/// Does what is asked.
-fn obey<F: Files, O: Sink>(
-    alloc: Global,
-    command: Command<'_>,
-    files: &mut F,
-    out: &mut O,
-) -> Status
-    ensures { CommandGives (asked command.entry) result
-        (outside (F.told files.old) (F.faults files.old) (F.longs files.old) (O.written out.old) (O.faults out.old))
-        (outside (F.told files.new) (F.faults files.new) (F.longs files.new) (O.written out.new) (O.faults out.new)) }
-{
-    match command {
-        Command::Help => put_text(HELP, out),
-        Command::Version => put_text(VERSION, out),
-        Command::Flat { name, bound } => flat(alloc, name, bound, files, out),
-    }
-}
-
 /// The name of the file that a command reads.
 fn name_of<'a>(command: Command<'a>) -> &'a str
     ensures { result.now ≡ name_in (Some (asked command.entry)) }
@@ -67,7 +52,37 @@ fn name_of<'a>(command: Command<'a>) -> &'a str
     match command {
         Command::Help | Command::Version => "",
         Command::Flat { name, bound: _ } => name,
+        Command::Run { script } => script,
     }
+}
+
+/// Does what is asked.
+fn obey<F: Files, O: Sink, E: Sink>(
+    alloc: Global,
+    command: Command<'_>,
+    files: &mut F,
+    out: &mut O,
+    err: &mut E,
+) -> Status
+    ensures out { CommandGives (asked command.entry) result
+        (outside (F.told files.old) (F.faults files.old) (F.longs files.old) (O.written out.old) (O.faults out.old))
+        (outside (F.told files.new) (F.faults files.new) (F.longs files.new) (O.written out.new) (O.faults out.new)) }
+    ensures complete { IsComplete (Some (asked command.entry)) result
+        (outside (F.told files.old) (F.faults files.old) (F.longs files.old) (O.written out.old) (O.faults out.old))
+        (outside (F.told files.new) (F.faults files.new) (F.longs files.new) (O.written out.new) (O.faults out.new)) }
+    ensures err { CommandSays (Some (asked command.entry)) result
+        (outside (F.told files.old) (F.faults files.old) (F.longs files.old) (O.written out.old) (O.faults out.old))
+        (outside (F.told files.new) (F.faults files.new) (F.longs files.new) (O.written out.new) (O.faults out.new))
+        (E.written err.old) (E.faults err.old) (E.written err.new) (E.faults err.new) }
+{
+    let status = match command {
+        Command::Help => put_text(HELP, out),
+        Command::Version => put_text(VERSION, out),
+        Command::Flat { name, bound } => flat(alloc, name, bound, files, out),
+        Command::Run { script } => return run(alloc, script, files, out, err),
+    };
+    explain(err, status, name_of(command));
+    status
 }
 
 /// Does what the words behind the program's name ask for, and answers how it ended.
@@ -87,14 +102,13 @@ pub fn host_main<F: Files, O: Sink, E: Sink>(
     ensures complete { IsComplete (command_of (map string_bytes words.now)) result
         (outside (F.told files.old) (F.faults files.old) (F.longs files.old) (O.written out.old) (O.faults out.old))
         (outside (F.told files.new) (F.faults files.new) (F.longs files.new) (O.written out.new) (O.faults out.new)) }
-    ensures err { ErrGives result (name_in (command_of (map string_bytes words.now))) (E.written err.old) (E.faults err.old) (E.written err.new) (E.faults err.new) }
+    ensures err { CommandSays (command_of (map string_bytes words.now)) result
+        (outside (F.told files.old) (F.faults files.old) (F.longs files.old) (O.written out.old) (O.faults out.old))
+        (outside (F.told files.new) (F.faults files.new) (F.longs files.new) (O.written out.new) (O.faults out.new))
+        (E.written err.old) (E.faults err.old) (E.written err.new) (E.faults err.new) }
 {
     match read_words(words) {
-        Some(command) => {
-            let status = obey(alloc, command, files, out);
-            explain(err, status, name_of(command));
-            status
-        }
+        Some(command) => obey(alloc, command, files, out, err),
         None => {
             explain(err, Status::Words, "");
             Status::Words

@@ -7,14 +7,16 @@ mod flat_line;
 mod flat_memory;
 mod flat_run;
 mod host;
+mod inputs;
 mod job;
 mod message;
+mod refusal;
+mod run;
 mod script_run;
 mod status;
 
 pub use flat_run::run_reaches_its_end;
 pub use host::host_main;
-pub use script_run::{Input, Outcome, run_script};
 pub use status::Status;
 
 #[cfg(test)]

@@ -41,13 +41,14 @@ fn say<E: Sink>(err: &mut E, reason: &str, name: &str)
     let _ = put_message(err, reason.as_bytes(), name.as_bytes());
 }
 
-/// Says why not all was put.
+/// Says why not all was put, with the name of a file or the script's fault.
 pub fn explain<E: Sink>(err: &mut E, status: Status, name: &str)
     ensures { ErrGives status name.now (E.written err.old) (E.faults err.old) (E.written err.new) (E.faults err.new) }
 {
     match status {
         Status::Done | Status::Halted => {}
         Status::Words => say(err, "usage", ""),
+        Status::Script => say(err, "script ", name),
         Status::Read => say(err, "read ", name),
         Status::Size => say(err, "size ", name),
         Status::Write => say(err, "write", ""),

@@ -1,10 +1,17 @@
-//! Runs of scripts over images in memory.
-use crate::{Input, Outcome, run_script};
-use host_script::read_script;
+//! Runs of scripts by the top call, over files and outputs in memory.
+use crate::{Status, host_main};
 use std::alloc::Global;
 use std::process::Abort;
 use std::test::Fail;
-use uh_base::{Bytes, MemSink, Text};
+use uh_base::{MemFiles, MemSink};
+
+/// What a run answered and put.
+#[derive(Drop)]
+struct Answered {
+    status: Status,
+    out: MemSink,
+    err: MemSink,
+}
 
 /// Writes bytes at an offset of a file.
 fn write(file: &mut Vec<u8>, at: usize, bytes: &[u8]) {
@@ -40,25 +47,34 @@ fn image(alloc: Global, code: &[u8]) -> Result<Vec<u8>, Fail> {
     Ok(file)
 }
 
-/// Runs a script over one image, `app`.
-fn ran(alloc: Global, script: &str, file: &[u8], fail: &[u32]) -> Result<(Outcome, MemSink), Fail> {
-    let script = read_script(alloc, script.as_bytes())?;
+/// Runs the script file `S` over one image file, `app.efi`, where the puts of the given numbers fail.
+fn ran(alloc: Global, script: &[u8], file: &[u8], fail: &[u32]) -> Result<Answered, Fail> {
+    let mut files = MemFiles::new(alloc, Vec::new(alloc));
+    files.add(alloc, "S", script)?;
+    files.add(alloc, "app.efi", file)?;
+    run_over(alloc, files, fail)
+}
+
+/// Runs the script file `S` of some files.
+fn run_over(alloc: Global, files: MemFiles, fail: &[u32]) -> Result<Answered, Fail> {
+    let mut files = files;
     let mut out = MemSink::new(alloc, 1000, Vec::from_slice(alloc, fail)?)?;
-    let mut inputs = Vec::new(alloc);
-    inputs.push(Input {
-        name: Text::new(alloc, "app")?,
-        file: Bytes::new(alloc, file)?,
-    })?;
-    let outcome = run_script(alloc, script.step.as_slice(), inputs.as_slice(), &mut out);
-    Ok((outcome, out))
+    let mut err = MemSink::new(alloc, 200, Vec::new(alloc))?;
+    let mut words = Vec::new(alloc);
+    for word in ["run", "S"].iter() {
+        words.push(String::from_str(alloc, *word)?)?;
+    }
+    let status = host_main(alloc, words.as_slice(), &mut files, &mut out, &mut err);
+    Ok(Answered { status, out, err })
 }
 
-fn expect(rt: &impl Abort, ran: &(Outcome, MemSink), outcome: Outcome, text: &str) {
-    assert_eq!(rt; ran.0, outcome);
-    assert!(rt; ran.1.written() == text.as_bytes());
+fn expect(rt: &impl Abort, ran: &Answered, status: Status, text: &str, message: &str) {
+    assert_eq!(rt; ran.status, status);
+    assert!(rt; ran.out.written() == text.as_bytes());
+    assert!(rt; ran.err.written() == message.as_bytes());
 }
 
-const SCRIPT: &str = "
+const SCRIPT: &[u8] = b"
 [[image]]
 name = \"app\"
 file = \"app.efi\"
@@ -83,8 +99,9 @@ fn an_image_is_loaded_prints_and_returns(rt: HostRuntime) -> Result<(), Fail> {
     expect(
         &rt,
         &whole,
-        Outcome::Done,
+        Status::Done,
         "load app 0000000000000000 0000000040fba000 2\nconsole Hi\nstart app 0000000000000000 13\nend\n",
+        "",
     );
     let cut = ran(
         alloc,
@@ -95,15 +112,17 @@ fn an_image_is_loaded_prints_and_returns(rt: HostRuntime) -> Result<(), Fail> {
     expect(
         &rt,
         &cut,
-        Outcome::Done,
+        Status::Done,
         "load app 8000000000000001 0000000000000000 0\nstart app 8000000000000002 0\nend\n",
+        "",
     );
     let unput = ran(alloc, SCRIPT, file.as_slice(), &[1])?;
     expect(
         &rt,
         &unput,
-        Outcome::Write,
+        Status::Write,
         "load app 0000000000000000 0000000040fba000 2\n",
+        "uefihost: write\n",
     );
     Ok(())
 }
@@ -137,7 +156,51 @@ fn a_trap_and_the_bound_halt_a_run(rt: HostRuntime) -> Result<(), Fail> {
         let file = image(alloc, code)?;
         let halted = ran(alloc, SCRIPT, file.as_slice(), &[])?;
         let text = format!(in alloc; "load app 0000000000000000 0000000040fba000 2\n{}", *line)?;
-        expect(&rt, &halted, Outcome::Halted, text.as_str());
+        expect(&rt, &halted, Status::Halted, text.as_str(), "");
     }
+    Ok(())
+}
+
+#[test]
+fn a_script_is_refused_where_it_says_no_steps(rt: HostRuntime) -> Result<(), Fail> {
+    let alloc = rt.alloc();
+    let rows: [(&[u8], &str); 4] = [
+        (b"", "uefihost: script 0 Missing\n"),
+        (b"[[step", "uefihost: script 0 Text\n"),
+        (
+            b"[[step]]\ndo = \"load\"\nimage = \"app\"",
+            "uefihost: script 1 Name\n",
+        ),
+        (b"[[step]]\nimage = \"app\"", "uefihost: script 1 Missing\n"),
+    ];
+    for (script, message) in rows.iter() {
+        let refused = ran(alloc, script, b"", &[])?;
+        expect(&rt, &refused, Status::Script, "", *message);
+    }
+    Ok(())
+}
+
+#[test]
+fn files_that_are_not_there_or_too_long_are_named(rt: HostRuntime) -> Result<(), Fail> {
+    let alloc = rt.alloc();
+    let none = run_over(alloc, MemFiles::new(alloc, Vec::new(alloc)), &[])?;
+    expect(&rt, &none, Status::Read, "", "uefihost: read S\n");
+    let mut files = MemFiles::new(alloc, Vec::new(alloc));
+    files.add(alloc, "S", SCRIPT)?;
+    let no_image = run_over(alloc, files, &[])?;
+    expect(&rt, &no_image, Status::Read, "", "uefihost: read app.efi\n");
+    let mut long = Vec::new(alloc);
+    long.resize(0x10_0001, b'\n')?;
+    let long_script = ran(alloc, long.as_slice(), b"", &[])?;
+    expect(&rt, &long_script, Status::Size, "", "uefihost: size S\n");
+    long.resize(0x40_0001, 0u8)?;
+    let long_image = ran(alloc, SCRIPT, long.as_slice(), &[])?;
+    expect(
+        &rt,
+        &long_image,
+        Status::Size,
+        "",
+        "uefihost: size app.efi\n",
+    );
     Ok(())
 }

@@ -13,6 +13,8 @@ pub enum Status {
     Halted,
     /// The words ask for no command.
     Words,
+    /// The script is refused.
+    Script,
     /// A file couldn't be read.
     Read,
     /// A file is longer than its limit.
@@ -32,6 +34,7 @@ impl Status {
             Status::Done => 0,
             Status::Halted => 1,
             Status::Words => 2,
+            Status::Script => 3,
             Status::Read => 4,
             Status::Write => 5,
             Status::Memory => 6,
