@@ -1,5 +1,6 @@
 -- How an image file is loaded, and how an image begins and ends.
 use Rattle.std.specs.Prelude.{ℕ, zero, suc, ◌≡◌, ◌≤◌, ◌+◌, ◌-◌, ◌*◌, ◌/◌, ◌^◌, ◌==◌, ◌&&◌, ◌||◌, nat_le, nat_lt, Bool, true, false, not, ◌%◌, is_none, List, [], ◌∷◌, ◌++◌, length, replicate, Option, Some, None, Result, Ok, Err, slice_set, if◌then◌else◌}
+use Rattle.uh_base.specs.Statuses.{load_error, unsupported, out_of_resources}
 use Rattle.guest_memory.specs.Lists.{count_true}
 use Rattle.guest_memory.specs.Pages.{Pages, all_rights}
 use Rattle.guest_memory.specs.Changes.{reserved, cleared, with_rights, written_pages}
@@ -16,16 +17,6 @@ use Rattle.base_reloc.specs.Kept.{sites_in}
 use Rattle.base_reloc.specs.Moved.{moved_byte, first_leaving}
 use Rattle.firmware_core.specs.declared.machine.LoadedImage.{LoadedImage}
 use Rattle.firmware_core.specs.Machines.{State}
-
--- statuses (UEFI 2.10, appendix D)
-abbrev pub load_error : ℕ
-load_error = 0x8000000000000001
-
-abbrev pub unsupported : ℕ
-unsupported = 0x8000000000000003
-
-abbrev pub out_of_resources : ℕ
-out_of_resources = 0x8000000000000009
 
 -- the values of a function at the first so many numbers from one on
 unfoldable pub values_from : (ℕ → ℕ) → ℕ → ℕ → List ℕ

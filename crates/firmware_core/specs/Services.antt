@@ -1,5 +1,6 @@
 -- The services of the firmware: what each answers, over the parts that it reads or changes.
 use Rattle.std.specs.Prelude.{ℕ, ◌+◌, ◌^◌, ◌==◌, Bool, List, Option, Some, None, slice_index, if◌then◌else◌}
+use Rattle.uh_base.specs.Statuses.{success, warn_unknown_glyph, invalid_parameter}
 use Rattle.uh_base.specs.ConsoleText.{units_text, is_surrogate}
 use Rattle.std.specs.List.{list_any}
 use Rattle.guest_memory.specs.Pages.{Pages}
@@ -11,22 +12,9 @@ pub data Served : Type 0 where
   Answers : (a0 : ℕ) → Served
   Prints : (text : List ℕ) (a0 : ℕ) → Served
 
--- statuses (UEFI 2.10, appendix D)
-abbrev pub success : ℕ
-success = 0
-
-abbrev pub unknown_glyph : ℕ
-unknown_glyph = 1
-
-abbrev pub invalid_parameter : ℕ
-invalid_parameter = 0x8000000000000002
-
-abbrev pub unsupported : ℕ
-unsupported = 0x8000000000000003
-
 -- a warning where a unit was skipped
 abbrev pub glyph_status : List ℕ → ℕ
-glyph_status units = if list_any is_surrogate units then unknown_glyph else success
+glyph_status units = if list_any is_surrogate units then warn_unknown_glyph else success
 
 abbrev pub printed : Option (List ℕ) → Served
 printed None = Answers invalid_parameter

@@ -1,5 +1,6 @@
 -- One turn of the machine.
 use Rattle.std.specs.Prelude.{ℕ, ◌+◌, ◌-◌, ◌*◌, ◌/◌, ◌%◌, ◌==◌, ◌&&◌, not, nat_le, nat_lt, Bool, List, Option, Some, None, slice_index, slice_set, if◌then◌else◌}
+use Rattle.uh_base.specs.Statuses.{unsupported}
 use Rattle.rv_step.specs.Exec.{Outcome, Went, Stored, Stopped, step_of}
 use Rattle.rv_step.specs.Exec as exec
 use Rattle.guest_memory.specs.Pages.{bytes_of, rights_at}
@@ -9,7 +10,7 @@ use Rattle.address_view.specs.Stored.{store_seen, lacks_seen}
 use Rattle.firmware_core.specs.declared.happened.Happened.{Happened}
 use Rattle.firmware_core.specs.declared.happened.Happened.TheVariants as happened
 use Rattle.firmware_core.specs.Machines.{State}
-use Rattle.firmware_core.specs.Services.{Served, Answers, Prints, output_string, unsupported}
+use Rattle.firmware_core.specs.Services.{Served, Answers, Prints, output_string}
 
 -- what happens in a turn, and the state behind it
 pub record Turn : Type 0 where

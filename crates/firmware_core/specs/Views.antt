@@ -14,7 +14,8 @@ use Rattle.firmware_core.specs.declared.load.Refusal.{Refusal}
 use Rattle.firmware_core.specs.declared.load.Refusal.TheVariants as refusals
 use Rattle.firmware_core.specs.declared.machine.LoadedImage.{LoadedImage}
 use Rattle.firmware_core.specs.Machines.{State}
-use Rattle.firmware_core.specs.Loads.{Plan, status_of, load_error}
+use Rattle.firmware_core.specs.Loads.{Plan, status_of}
+use Rattle.uh_base.specs.Statuses.{load_error}
 
 abbrev pub served_by : code.Served → Served
 served_by (served.Answers a0) = Answers a0

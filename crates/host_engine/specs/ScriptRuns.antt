@@ -1,6 +1,7 @@
 -- The run of a script: the lines of its steps, in order.
 use Rattle.std.specs.Prelude.{◌≡◌, ℕ, List, [], ◌∷◌, ◌++◌, length, nat_le, Bool, true, false, Option, Some, None, Result, Ok, Err, if◌then◌else◌}
 use Rattle.std.specs.Str.{bytes_eq}
+use Rattle.uh_base.specs.Statuses.{load_error, invalid_parameter, not_found}
 use Rattle.uh_base.specs.Told.{grown}
 use Rattle.record_text.specs.declared.line.Line.{Line}
 use Rattle.record_text.specs.declared.line.Line.TheVariants as lines
@@ -8,7 +9,7 @@ use Rattle.host_script.specs.declared.script.Step.{Step}
 use Rattle.host_script.specs.declared.script.Step.TheVariants.{Load, Start}
 use Rattle.firmware_core.specs.declared.machine.LoadedImage.{LoadedImage}
 use Rattle.firmware_core.specs.Machines.{State}
-use Rattle.firmware_core.specs.Loads.{load_of, begun, ended, load_error}
+use Rattle.firmware_core.specs.Loads.{load_of, begun, ended}
 use Rattle.firmware_core.specs.Opening.{opened}
 use Rattle.host_engine.specs.declared.job.JobEnd.{JobEnd}
 use Rattle.host_engine.specs.declared.job.JobEnd.TheVariants.{Returned, Halted}
@@ -44,13 +45,6 @@ loaded name r (Ok machine) = record {
   running = record { machine = machine; name = name };
 }
 loaded name r (Err status) = record { lines = lines.Load name status 0 0 ∷ []; halted = false; running = r }
-
--- statuses (UEFI 2.10, appendix D)
-abbrev pub not_found : ℕ
-not_found = 0x800000000000000e
-
-abbrev pub invalid_parameter : ℕ
-invalid_parameter = 0x8000000000000002
 
 -- a file has at most 4 MiB
 abbrev pub file_loaded : State → Option (List ℕ) → Result State ℕ

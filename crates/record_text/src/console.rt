@@ -112,7 +112,6 @@ fn are_units(text: &[u8]) -> bool
 }
 
 /// Whether a text is console text: that of at most 4,096 units.
-
 #[tactic(auto, using(crate::proofs::ConsoleLemmas::is_read, crate::proofs::ConsoleLemmas::is_written))]
 pub(crate) fn is_console_text(text: &str) -> bool
     ensures sound { IsTrue result → IsConsoleText text.now }

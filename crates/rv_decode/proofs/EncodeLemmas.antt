@@ -12,6 +12,7 @@ use Rattle.rv_decode.specs.Names.{place_of, format_of, format_in}
 use Rattle.rv_decode.specs.Fits.{fits, in_range, is_register, is_signed, is_shift, is_multiple, HasWord, FitsExactly}
 use Rattle.rv_decode.specs.Views.{row_of}
 use Rattle.rv_decode.specs.Packed.{packed}
+use Rattle.rv_decode.specs.Encoded.{encoded, word_in}
 use Rattle.rv_decode.specs.declared.insn.Insn.{Insn}
 use Rattle.rv_decode.specs.declared.insn.Op.{Op}
 use Rattle.rv_decode.specs.declared.insn.Op.TheVariants as ops
@@ -74,6 +75,10 @@ name_packs insn r w g e h =
     let parts = and_split (r.6 == 4) _ (ap is_long (sym at) ∙ long insn.op) in
     let range : in_range r.5 insn ≡ true = ap (λ f. in_range f insn) (format_is insn.op r g) ∙ h in
     packs r.5 insn r.0 r.1 w parts.1 range e
+
+pub is_encoded : (insn : Insn) (r : code.Row) (w : ℕ) → slice_get ROWS (place_of insn.op) ≡ Some r → w ≡ packed r.5 r.1 insn → w ≡ encoded insn
+unfolding encoded
+is_encoded insn r w g e = e ∙ sym (ap (λ row. word_in row insn) (in_table (place_of insn.op) r g))
 
 pub encodes : (insn : Insn) (r : code.Row) (w : ℕ) → slice_get ROWS (place_of insn.op) ≡ Some r → w ≡ packed r.5 r.1 insn → fits insn ≡ true
     → decoded (w % 2 ^ 16) (w / 2 ^ 16) ≡ Some (insn, 4)

@@ -3,6 +3,7 @@
 
 ghost use Rattle.std.specs.Prelude.{◌≡◌, ◌<◌, ◌^◌, ◌/◌, ◌%◌, ◌*◌, IsTrue, Some, length, slice_get};
 ghost use Rattle.std.specs.Int.{cast_unsigned, w64};
+ghost use Rattle.rv_decode.specs.Encoded.{encoded};
 ghost use Rattle.rv_decode.specs.Fields.{field};
 ghost use Rattle.rv_decode.specs.Fits.{fits, FitsExactly};
 ghost use Rattle.rv_decode.specs.Means.{decoded};
@@ -162,7 +163,8 @@ pub(crate) fn row_of_name(op: Op) -> Row
 /// unprivileged manual, version 20191213, 2.7)
 pub fn encode(insn: Insn) -> u32
     requires { IsTrue (fits insn) }
-    ensures { decoded (result % 2 ^ 16) (result / 2 ^ 16) ≡ Some (insn, 4) }
+    ensures word { result ≡ encoded insn }
+    ensures means { decoded (result % 2 ^ 16) (result / 2 ^ 16) ≡ Some (insn, 4) }
 {
     let row = row_of_name(insn.op);
     pack(row.5, row.1, insn)

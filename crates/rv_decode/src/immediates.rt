@@ -6,6 +6,7 @@ ghost use Rattle.rv_decode.specs.Immediates.{imm_i, shamt, shamt_word, imm_s, im
 
 use crate::fields::{field_of, sign_extend};
 
+/// The immediate of an I-type word, in bytes where it is an offset: bits 31 to 20, signed.
 #[inline(always)]
 pub(crate) fn imm_i(word: u32) -> i64
     ensures { result ≡ imm_i word }
@@ -13,6 +14,7 @@ pub(crate) fn imm_i(word: u32) -> i64
     sign_extend(field_of(word, 20, 12), 12)
 }
 
+/// A shift of 0 to 63 bits.
 #[inline(always)]
 pub(crate) fn shamt(word: u32) -> i64
     ensures { result ≡ shamt word }
@@ -20,6 +22,7 @@ pub(crate) fn shamt(word: u32) -> i64
     i64::from(field_of(word, 20, 6))
 }
 
+/// A shift of 0 to 31 bits.
 #[inline(always)]
 pub(crate) fn shamt_word(word: u32) -> i64
     ensures { result ≡ shamt_word word }
@@ -27,6 +30,7 @@ pub(crate) fn shamt_word(word: u32) -> i64
     i64::from(field_of(word, 20, 5))
 }
 
+/// The offset of a store, in bytes.
 #[inline(always)]
 pub(crate) fn imm_s(word: u32) -> i64
     ensures { result ≡ imm_s word }
@@ -34,6 +38,7 @@ pub(crate) fn imm_s(word: u32) -> i64
     sign_extend((field_of(word, 25, 7) << 5) + field_of(word, 7, 5), 12)
 }
 
+/// The distance of a branch, in bytes.
 #[inline(always)]
 pub(crate) fn imm_b(word: u32) -> i64
     ensures { result ≡ imm_b word }
@@ -47,6 +52,7 @@ pub(crate) fn imm_b(word: u32) -> i64
     )
 }
 
+/// The immediate of LUI and AUIPC: a multiple of 4,096.
 #[inline(always)]
 pub(crate) fn imm_u(word: u32) -> i64
     ensures { result ≡ imm_u word }
@@ -54,6 +60,7 @@ pub(crate) fn imm_u(word: u32) -> i64
     sign_extend(field_of(word, 12, 20) << 12, 32)
 }
 
+/// The distance of JAL, in bytes.
 #[inline(always)]
 pub(crate) fn imm_j(word: u32) -> i64
     ensures { result ≡ imm_j word }
@@ -67,6 +74,7 @@ pub(crate) fn imm_j(word: u32) -> i64
     )
 }
 
+/// The immediate of C.ADDI4SPN.
 #[inline(always)]
 pub(crate) fn imm_addi4spn(word: u32) -> i64
     ensures { result ≡ imm_addi4spn word }
@@ -79,6 +87,7 @@ pub(crate) fn imm_addi4spn(word: u32) -> i64
     )
 }
 
+/// The offset of C.LW and C.SW, in bytes.
 #[inline(always)]
 pub(crate) fn offset_lw(word: u32) -> i64
     ensures { result ≡ offset_lw word }
@@ -88,6 +97,7 @@ pub(crate) fn offset_lw(word: u32) -> i64
     )
 }
 
+/// The offset of C.LD and C.SD, in bytes.
 #[inline(always)]
 pub(crate) fn offset_ld(word: u32) -> i64
     ensures { result ≡ offset_ld word }
@@ -95,6 +105,7 @@ pub(crate) fn offset_ld(word: u32) -> i64
     i64::from((field_of(word, 10, 3) << 3) + (field_of(word, 5, 2) << 6))
 }
 
+/// The immediate of C.ADDI, C.ADDIW, C.LI and C.ANDI.
 #[inline(always)]
 pub(crate) fn imm_ci(word: u32) -> i64
     ensures { result ≡ imm_ci word }
@@ -102,6 +113,7 @@ pub(crate) fn imm_ci(word: u32) -> i64
     sign_extend((field_of(word, 12, 1) << 5) + field_of(word, 2, 5), 6)
 }
 
+/// The shift of C.SLLI, C.SRLI and C.SRAI.
 #[inline(always)]
 pub(crate) fn shamt_ci(word: u32) -> i64
     ensures { result ≡ shamt_ci word }
@@ -109,6 +121,7 @@ pub(crate) fn shamt_ci(word: u32) -> i64
     i64::from((field_of(word, 12, 1) << 5) + field_of(word, 2, 5))
 }
 
+/// The immediate of C.ADDI16SP.
 #[inline(always)]
 pub(crate) fn imm_addi16sp(word: u32) -> i64
     ensures { result ≡ imm_addi16sp word }
@@ -123,6 +136,7 @@ pub(crate) fn imm_addi16sp(word: u32) -> i64
     )
 }
 
+/// The immediate of C.LUI: a multiple of 4,096.
 #[inline(always)]
 pub(crate) fn imm_lui(word: u32) -> i64
     ensures { result ≡ imm_lui word }
@@ -133,6 +147,7 @@ pub(crate) fn imm_lui(word: u32) -> i64
     )
 }
 
+/// The distance of C.J, in bytes.
 #[inline(always)]
 pub(crate) fn offset_j(word: u32) -> i64
     ensures { result ≡ offset_j word }
@@ -150,6 +165,7 @@ pub(crate) fn offset_j(word: u32) -> i64
     )
 }
 
+/// The distance of C.BEQZ and C.BNEZ, in bytes.
 #[inline(always)]
 pub(crate) fn offset_b(word: u32) -> i64
     ensures { result ≡ offset_b word }
@@ -164,6 +180,7 @@ pub(crate) fn offset_b(word: u32) -> i64
     )
 }
 
+/// The offset of C.LWSP, in bytes.
 #[inline(always)]
 pub(crate) fn offset_lwsp(word: u32) -> i64
     ensures { result ≡ offset_lwsp word }
@@ -173,6 +190,7 @@ pub(crate) fn offset_lwsp(word: u32) -> i64
     )
 }
 
+/// The offset of C.LDSP, in bytes.
 #[inline(always)]
 pub(crate) fn offset_ldsp(word: u32) -> i64
     ensures { result ≡ offset_ldsp word }
@@ -182,6 +200,7 @@ pub(crate) fn offset_ldsp(word: u32) -> i64
     )
 }
 
+/// The offset of C.SWSP, in bytes.
 #[inline(always)]
 pub(crate) fn offset_swsp(word: u32) -> i64
     ensures { result ≡ offset_swsp word }
@@ -189,6 +208,7 @@ pub(crate) fn offset_swsp(word: u32) -> i64
     i64::from((field_of(word, 9, 4) << 2) + (field_of(word, 7, 2) << 6))
 }
 
+/// The offset of C.SDSP, in bytes.
 #[inline(always)]
 pub(crate) fn offset_sdsp(word: u32) -> i64
     ensures { result ≡ offset_sdsp word }

@@ -9,7 +9,6 @@ mod offsets;
 mod tables;
 
 pub use console::console_text;
-pub use fields::Field;
 pub use laws::{crcs_are_right, tables_are_apart};
 pub use memory::{build_tables, clear_boot, move_tables};
 

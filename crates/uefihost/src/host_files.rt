@@ -1,5 +1,5 @@
 //! Files of the system.
-ghost use Rattle.std.specs.Prelude.{None, IfOk, vec_len, ◌≤◌};
+ghost use Rattle.std.specs.Prelude.{None, IfOk, vec_len, ◌≡◌, ◌≤◌};
 
 use std::alloc::Global;
 use std::io::{ErrorKind, Read};
@@ -19,7 +19,10 @@ pub struct HostFiles<'a, R> {
 
 impl<'a, R: rt::Files> HostFiles<'a, R> {
     /// The files under the program's working directory, of which none has failed.
-    pub fn new(rt: &'a R) -> HostFiles<'a, R> {
+    pub fn new(rt: &'a R) -> HostFiles<'a, R>
+        ensures faults { result.faults ≡ 0 }
+        ensures longs { result.longs ≡ 0 }
+    {
         HostFiles {
             rt,
             faults: 0,

@@ -1,5 +1,5 @@
 //! Outputs of the system.
-ghost use Rattle.std.specs.Prelude.{None};
+ghost use Rattle.std.specs.Prelude.{None, ◌≡◌};
 
 use std::io::{ErrorKind, Write};
 use uh_base::{Failed, Sink};
@@ -13,7 +13,9 @@ pub struct HostOut<W> {
 
 impl<W: Write> HostOut<W> {
     /// An output that hasn't failed.
-    pub fn new(to: W) -> HostOut<W> {
+    pub fn new(to: W) -> HostOut<W>
+        ensures { result.faults ≡ 0 }
+    {
         HostOut { to, faults: 0 }
     }
 }

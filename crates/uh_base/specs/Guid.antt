@@ -1,5 +1,5 @@
 -- A GUID by its fields, by its text, and by its sixteen bytes: UEFI 2.10, appendix A.
-use Rattle.std.specs.Prelude.{ℕ, ◌<◌, ◌^◌, List, ◌++◌, take, drop, Option, option_map}
+use Rattle.std.specs.Prelude.{ℕ, ◌<◌, ◌^◌, ◌==◌, ◌&&◌, Bool, List, ◌++◌, take, drop, Option, option_map}
 use Rattle.std.specs.Int.{w16, w32, w64, from_be_bytes, to_be_bytes, to_le_bytes}
 use Rattle.uuid.specs.Text.{parsed}
 use Rattle.uh_base.specs.declared.guid.Guid.{Guid}
@@ -20,6 +20,10 @@ read_of text = option_map fields_of (parsed text)
 -- the sixteen bytes in memory: the first three fields with the least byte first, the rest in order
 unfoldable pub bytes_of : Guid → List ℕ
 bytes_of guid = to_le_bytes w32 guid.d1 ++ (to_le_bytes w16 guid.d2 ++ (to_le_bytes w16 guid.d3 ++ to_be_bytes w64 guid.d4))
+
+-- the same GUID, by its fields
+abbrev pub same_guid : Guid → Guid → Bool
+same_guid a b = a.d1 == b.d1 && (a.d2 == b.d2 && (a.d3 == b.d3 && a.d4 == b.d4))
 
 -- the fields fit their types
 pub record IsGuid (guid : Guid) : Type 0 where

@@ -10,4 +10,5 @@ pub mod MemFiles
 pub mod MemSink
 pub mod Names
 pub mod Numbers
+pub mod Statuses
 pub mod Told

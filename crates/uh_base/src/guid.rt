@@ -11,7 +11,7 @@ pub struct Guid {
 
 impl Guid {
     ghost use Rattle.std.specs.Prelude.{◌≡◌};
-    ghost use Rattle.uh_base.specs.Guid.{read_of, bytes_of, IsGuid};
+    ghost use Rattle.uh_base.specs.Guid.{read_of, same_guid, bytes_of, IsGuid};
     ghost use Rattle.uh_base.specs.declared.guid.Guid.{Guid as AnyGuid};
 
     /// Reads a GUID's text: 32 hexadecimal digits, the form with hyphens, that form in braces, and that form behind
@@ -31,6 +31,13 @@ impl Guid {
             }
             Err(_) => None,
         }
+    }
+
+    /// Whether it is the same GUID, by its fields.
+    pub fn is_same(&self, other: &Guid) -> bool
+        ensures { result ≡ same_guid self.now other.now }
+    {
+        self.d1 == other.d1 && self.d2 == other.d2 && self.d3 == other.d3 && self.d4 == other.d4
     }
 
     /// The sixteen bytes in memory: the first three fields with the least byte first, the rest in order.
