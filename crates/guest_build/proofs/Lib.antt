@@ -1,0 +1,6 @@
+pub mod TextLemmas
+pub mod LowLemmas
+pub mod TableLemmas
+pub mod LabelLemmas
+pub mod PutLemmas
+pub mod LineLemmas

@@ -1,0 +1,14 @@
+pub mod Faults
+pub mod Texts
+pub mod Numbers
+pub mod Words
+pub mod Operands
+pub mod Statements
+pub mod Lines
+pub mod Places
+pub mod Codes
+pub mod Relocations
+pub mod Layout
+pub mod Image
+pub mod Assembled
+pub mod Views

@@ -1,0 +1,25 @@
+//! PE32+ images from RISC-V assembly text.
+#![tactic(auto)]
+
+mod assembly;
+mod bytes;
+mod directive;
+mod encoding;
+mod fault;
+mod image;
+mod instruction;
+mod labels;
+mod layout;
+mod line;
+mod little_endian;
+mod number;
+mod operand;
+mod places;
+mod relocation;
+mod sections;
+mod statement;
+mod text;
+mod word;
+
+pub use assembly::assemble;
+pub use fault::{AsmFault, AsmKind};
