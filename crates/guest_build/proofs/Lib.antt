@@ -4,3 +4,4 @@ pub mod TableLemmas
 pub mod LabelLemmas
 pub mod PutLemmas
 pub mod LineLemmas
+pub mod MeasureLemmas

@@ -50,14 +50,6 @@ pub run_off : (len : ℕ) (page : Option ℕ) (odd : Bool) (site : Site) (others
     → (((len + length (padding odd)) % 18446744073709551616 + 10) % 18446744073709551616 + length (table_behind (Some (page_of site)) true others)) % 18446744073709551616 ≡ (len + length (table_behind page odd (site ∷ others))) % 18446744073709551616
 run_off len page odd site others h = omega (arith, length_off page odd site others h)
 
-pub run_start : (len : ℕ) (odd : Bool) (page : Option ℕ) (first second : List Site)
-    → (len + length (table_behind page odd [])) % 18446744073709551616 ≡ (0 + length (table_behind None false (first ++ (second ++ [])))) % 18446744073709551616
-    → (len + length (padding odd)) % 18446744073709551616 ≡ length (table_of (first ++ second)) % 18446744073709551616
-unfolding table_of
-run_start len odd page first second h =
-    let e = rw (behind_all, append-nil second) at h in
-    e ∙ ap (λ n. n % 18446744073709551616) (zero-add (length (table_behind None false (first ++ second))))
-
 -- ---- writing it
 
 pub put_on : (old new : List ℕ) (page : Option ℕ) (odd : Bool) (site : Site) (others : List Site) → is_on page site ≡ true → new ≡ old ++ entry_bytes site

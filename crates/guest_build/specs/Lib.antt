@@ -12,3 +12,4 @@ pub mod Layout
 pub mod Image
 pub mod Assembled
 pub mod Views
+pub mod Measures

@@ -6,6 +6,7 @@ ghost use Rattle.guest_build.specs.Places.{extent_of, nothing_yet, found, labell
 ghost use Rattle.guest_build.specs.Lines.{line_of};
 ghost use Rattle.guest_build.specs.Layout.{no_sections};
 ghost use Rattle.guest_build.specs.Assembled.{with_line, sections_from, image_from, image_in, assembled};
+ghost use Rattle.guest_build.specs.Measures.{IsMeasure};
 ghost use Rattle.guest_build.specs.Views.{sections_of, places_in, or_else, Makes};
 
 use crate::encoding::offset_of;
@@ -14,6 +15,7 @@ use crate::image::image_of;
 use crate::labels::Labels;
 use crate::layout::origins_of;
 use crate::line::line_of;
+use crate::measure::Measure;
 use crate::places::{Extent, Origins, Place};
 use crate::sections::Sections;
 use std::alloc::{AllocError, Global};
@@ -96,15 +98,18 @@ fn fault_on(line: u32, fault: Fault) -> AsmFault
 fn add_line(
     alloc: Global,
     all: &mut Sections,
+    measure: &mut Measure,
     origins: &Origins,
     labels: &Labels,
     n: u32,
     text: &str,
 ) -> Result<(), Fault>
-    ensures { Makes result (sections_of all.new) (with_line origins.now (places_in labels.now) n (sections_of all.old) (line_of text.now)) }
+    requires { IsMeasure measure.old all.old.in_text.sites.items all.old.in_data.sites.items }
+    ensures made { Makes result (sections_of all.new) (with_line origins.now (places_in labels.now) n (sections_of all.old) (line_of text.now)) }
+    ensures measure { OnOk result (IsMeasure measure.new all.new.in_text.sites.items all.new.in_data.sites.items) }
 {
     let line = line_of(alloc, text)?;
-    all.add(origins, labels, n, &line)
+    all.add(measure, origins, labels, n, &line)
 }
 
 /// What lines make of the sections.
@@ -118,9 +123,10 @@ fn sections_from(
     ensures { Reads sections_of result (sections_from origins.now (places_in labels.now) 1 no_sections (map (λ line. line.now) lines.now)) }
 {
     let mut all = Sections::new(alloc);
+    let mut measure = Measure::new();
     for i in 0..lines.len() {
         let n = i as u32 + 1;
-        match add_line(alloc, &mut all, origins, labels, n, lines[i]) {
+        match add_line(alloc, &mut all, &mut measure, origins, labels, n, lines[i]) {
             Ok(()) => {}
             Err(fault) => return Err(fault_on(n, fault)),
         }

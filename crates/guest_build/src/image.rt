@@ -1,14 +1,13 @@
 //! The file of an image.
 ghost use Rattle.std.specs.Prelude.{◌≡◌, ◌++◌, ◌-◌, ◌≤◌, OnOk, IfOk, length};
-ghost use Rattle.guest_build.specs.Layout.{sites_of};
-ghost use Rattle.guest_build.specs.Relocations.{table_of};
 ghost use Rattle.guest_build.specs.Places.{round_up, file_alignment};
 ghost use Rattle.guest_build.specs.Image.{zeros, padded, dos_header, coff_header, standard_fields, windows_fields, directories, section_header, section_header_if, raw_size, data_raw, reloc_raw, section_table, directory_at, headers_of, raw_bytes, file_of, image_of};
 ghost use Rattle.guest_build.specs.Views.{sections_of, drawn};
 
-use crate::layout::{Frame, file_alignment, has_sites, layout_of, round_up, section_count};
+use crate::layout::{
+    Frame, file_alignment, has_sites, layout_of, reloc_table, round_up, section_count,
+};
 use crate::little_endian::{put, put_zeros};
-use crate::relocation::{all_sites, table_of};
 use crate::sections::Sections;
 use std::alloc::{AllocError, Global};
 
@@ -264,25 +263,11 @@ fn file_of(
     Ok(out)
 }
 
-/// The bytes of `.reloc`.
-fn reloc_table(alloc: Global, frame: &Frame, all: &Sections) -> Result<Vec<u8>, AllocError>
-    ensures { IfOk result (λ table. table.items ≡ table_of (sites_of frame.now.text_from frame.now.data_from (sections_of all.now))) }
-{
-    let sites = all_sites(
-        alloc,
-        frame.text_from,
-        all.in_text.sites.as_slice(),
-        frame.data_from,
-        all.in_data.sites.as_slice(),
-    )?;
-    table_of(alloc, sites.as_slice())
-}
-
 /// The file of an image with an entry point.
 pub fn image_of(alloc: Global, entry: u64, all: &Sections) -> Result<Vec<u8>, AllocError>
     ensures { IfOk result (λ file. file.items ≡ image_of entry (sections_of all.now)) }
 {
-    let frame = layout_of(all);
-    let table = reloc_table(alloc, &frame, all)?;
+    let table = reloc_table(alloc, all)?;
+    let frame = layout_of(all, table.len() as u64);
     file_of(alloc, entry, &frame, all, table.as_slice())
 }

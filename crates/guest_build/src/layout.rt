@@ -1,12 +1,15 @@
 //! Where the sections lie in the image.
-ghost use Rattle.std.specs.Prelude.{◌≡◌, ◌<◌, ◌≤◌, ◌^◌, ◌+◌};
+ghost use Rattle.std.specs.Prelude.{◌≡◌, ◌<◌, ◌≤◌, length, IfOk};
 ghost use Rattle.guest_build.specs.Places.{round_up, file_alignment, counted, section_count, headers_size, text_at, data_at, origins_of};
 ghost use Rattle.guest_build.specs.Layout.{has_sites, layout_of, is_large};
 ghost use Rattle.guest_build.specs.Views.{sections_of, frame_of};
+ghost use Rattle.guest_build.specs.Measures.{IsMeasure, size_with};
 
+use crate::measure::Measure;
 use crate::places::{Extent, Origins};
-use crate::relocation::Run;
+use crate::relocation::{all_sites, table_of};
 use crate::sections::Sections;
+use std::alloc::{AllocError, Global};
 
 /// Where the sections lie in an image, and how large it is. All are numbers of bytes.
 #[derive(Clone, Copy, Debug)]
@@ -102,38 +105,94 @@ pub fn has_sites(all: &Sections) -> bool
     !(all.in_text.sites.is_empty() && all.in_data.sites.is_empty())
 }
 
-/// Where sections lie.
+/// Where `.text` begins in an image.
 #[tactic(auto, unfolding(crate::specs::Layout::layout_of))]
-pub fn layout_of(all: &Sections) -> Frame
-    ensures { result ≡ frame_of (layout_of (sections_of all.now)) }
+fn text_from(all: &Sections) -> u64
+    ensures { result ≡ (layout_of (sections_of all.now)).text_from }
 {
-    let alignment = all.settings.alignment();
+    text_at(
+        all.settings.alignment(),
+        all.in_data.bytes.len() as u64,
+        has_sites(all),
+    )
+}
+
+/// Where `.data` begins in an image.
+#[tactic(auto, unfolding(crate::specs::Layout::layout_of))]
+fn data_from(all: &Sections) -> u64
+    ensures { result ≡ (layout_of (sections_of all.now)).data_from }
+{
     let text_len = all.in_text.bytes.len() as u64;
     let data_len = all.in_data.bytes.len() as u64;
-    let moved = has_sites(all);
-    let text_from = text_at(alignment, data_len, moved);
-    let data_from = data_at(alignment, text_len, data_len, moved);
-    let reloc_from = round_up(alignment, data_from.wrapping_add(data_len));
-    let table_len = Run::of(
-        text_from,
-        all.in_text.sites.as_slice(),
-        data_from,
-        all.in_data.sites.as_slice(),
-    );
+    data_at(all.settings.alignment(), text_len, data_len, has_sites(all))
+}
+
+/// Where `.reloc` begins in an image.
+#[tactic(auto, unfolding(crate::specs::Layout::layout_of))]
+fn reloc_from(all: &Sections) -> u64
+    ensures { result ≡ (layout_of (sections_of all.now)).reloc_from }
+{
+    let data_len = all.in_data.bytes.len() as u64;
+    round_up(
+        all.settings.alignment(),
+        data_from(all).wrapping_add(data_len),
+    )
+}
+
+/// SizeOfImage, with a table of so many bytes.
+fn size_with(all: &Sections, table_len: u64) -> u64
+    ensures { result ≡ size_with (sections_of all.now) table_len }
+{
+    round_up(
+        all.settings.alignment(),
+        reloc_from(all).wrapping_add(table_len),
+    )
+}
+
+/// Where sections lie in an image whose table has so many bytes.
+#[tactic(auto, unfolding(crate::specs::Layout::layout_of))]
+pub fn layout_of(all: &Sections, table_len: u64) -> Frame
+    requires { table_len ≡ length (layout_of (sections_of all.now)).table }
+    ensures { result ≡ frame_of (layout_of (sections_of all.now)) }
+{
+    let data_len = all.in_data.bytes.len() as u64;
     Frame {
-        alignment,
-        headers: headers_size(alignment, data_len, moved),
-        text_from,
-        data_from,
-        reloc_from,
-        size: round_up(alignment, reloc_from.wrapping_add(table_len)),
+        alignment: all.settings.alignment(),
+        headers: headers_size(all.settings.alignment(), data_len, has_sites(all)),
+        text_from: text_from(all),
+        data_from: data_from(all),
+        reloc_from: reloc_from(all),
+        size: size_with(all, table_len),
     }
 }
 
-/// Whether the image has more than 1 MiB.
-#[tactic(auto, unfolding(crate::specs::Layout::is_large))]
-pub fn is_large(all: &Sections) -> bool
-    ensures { result ≡ is_large (sections_of all.now) }
+/// The bytes of `.reloc`.
+#[tactic(auto, unfolding(crate::specs::Layout::layout_of))]
+pub fn reloc_table(alloc: Global, all: &Sections) -> Result<Vec<u8>, AllocError>
+    ensures { IfOk result (λ table. table.items ≡ (layout_of (sections_of all.now)).table) }
 {
-    layout_of(all).size > 1 << 20
+    let sites = all_sites(
+        alloc,
+        text_from(all),
+        all.in_text.sites.as_slice(),
+        data_from(all),
+        all.in_data.sites.as_slice(),
+    )?;
+    table_of(alloc, sites.as_slice())
+}
+
+/// Whether the image has more than 1 MiB. The measure then has all its sites.
+pub fn is_large(all: &Sections, measure: &mut Measure) -> bool
+    requires { IsMeasure measure.old all.now.in_text.sites.items all.now.in_data.sites.items }
+    ensures value { result ≡ is_large (sections_of all.now) }
+    ensures measure { IsMeasure measure.new all.now.in_text.sites.items all.now.in_data.sites.items }
+{
+    let next = measure.over(
+        text_from(all),
+        all.in_text.sites.as_slice(),
+        data_from(all),
+        all.in_data.sites.as_slice(),
+    );
+    *measure = next;
+    size_with(all, next.run.table_len()) > 1 << 20
 }

@@ -12,12 +12,15 @@ mod labels;
 mod layout;
 mod line;
 mod little_endian;
+mod measure;
 mod number;
 mod operand;
 mod places;
 mod relocation;
 mod sections;
 mod statement;
+#[cfg(test)]
+mod tests;
 mod text;
 mod word;
 

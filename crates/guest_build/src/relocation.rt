@@ -60,8 +60,9 @@ fn padding_len(odd: bool) -> u64
 }
 
 impl Run {
-    ghost use Rattle.std.specs.Prelude.{◌≡◌, ◌^◌, ◌+◌, ◌%◌, ◌++◌, ◌∷◌, List, length};
-    ghost use Rattle.guest_build.specs.Relocations.{placed, table_behind, table_of};
+    ghost use Rattle.std.specs.Prelude.{◌≡◌, ◌^◌, ◌+◌, ◌%◌, ◌++◌, ◌∷◌, List, [], length};
+    ghost use Rattle.guest_build.specs.Measures.{IsRun};
+    ghost use Rattle.guest_build.specs.Relocations.{placed, padding, table_behind};
     ghost use Rattle.guest_build.specs.declared.relocation.Site.{Site as AnySite};
 
     /// One site more.
@@ -86,7 +87,7 @@ impl Run {
     }
 
     /// The sites of a section that begins at an offset.
-    fn with_all(self, from: u64, sites: &[Site]) -> Run
+    pub fn with_all(self, from: u64, sites: &[Site]) -> Run
         ensures { (others : List AnySite) → (result.len + length (table_behind result.page result.odd others)) % 2 ^ 64 ≡ (self.len + length (table_behind self.page self.odd (placed from sites.now ++ others))) % 2 ^ 64 }
     {
         let mut run = self;
@@ -96,19 +97,22 @@ impl Run {
         run
     }
 
-    /// How many bytes the table of two sections' sites has, modulo 2^64.
-    pub fn of(text_from: u64, in_text: &[Site], data_from: u64, in_data: &[Site]) -> u64
-        ensures { result ≡ length (table_of (placed text_from in_text.now ++ placed data_from in_data.now)) % 2 ^ 64 }
+    /// No sites.
+    pub fn new() -> Run
+        ensures { IsRun result [] }
     {
-        let start = Run {
+        Run {
             page: None,
             odd: false,
             len: 0,
-        };
-        let run = start
-            .with_all(text_from, in_text)
-            .with_all(data_from, in_data);
-        run.len.wrapping_add(padding_len(run.odd))
+        }
+    }
+
+    /// How many bytes the table has that ends here, modulo 2^64.
+    pub fn table_len(self) -> u64
+        ensures { result ≡ (self.len + length (padding self.odd)) % 2 ^ 64 }
+    {
+        self.len.wrapping_add(padding_len(self.odd))
     }
 }
 

@@ -8,6 +8,7 @@ use crate::bytes::put_statement;
 use crate::fault::{AsmKind, Fault};
 use crate::labels::Labels;
 use crate::layout::is_large;
+use crate::measure::Measure;
 use crate::places::{Origins, Section, Settings};
 use crate::relocation::{Site, SiteKind};
 use crate::statement::{Line, Operand, Statement};
@@ -122,6 +123,7 @@ impl Sections {
     ghost use Rattle.std.specs.Prelude.{◌≡◌, Ok, length};
     ghost use Rattle.guest_build.specs.Layout.{no_sections};
     ghost use Rattle.guest_build.specs.Assembled.{here_in, sections_put, with_line};
+    ghost use Rattle.guest_build.specs.Measures.{IsMeasure};
     ghost use Rattle.guest_build.specs.Views.{sections_of, places_in, Makes};
 
     /// Nothing yet.
@@ -170,17 +172,20 @@ impl Sections {
     #[tactic(auto, unfolding(crate::specs::Assembled::with_line, crate::specs::Assembled::not_large))]
     pub fn add(
         &mut self,
+        measure: &mut Measure,
         origins: &Origins,
         labels: &Labels,
         n: u32,
         line: &Line,
     ) -> Result<(), Fault>
-        ensures { Makes result (sections_of self.new) (with_line origins.now (places_in labels.now) n (sections_of self.old) line.now) }
+        requires { IsMeasure measure.old self.old.in_text.sites.items self.old.in_data.sites.items }
+        ensures made { Makes result (sections_of self.new) (with_line origins.now (places_in labels.now) n (sections_of self.old) line.now) }
+        ensures measure { OnOk result (IsMeasure measure.new self.new.in_text.sites.items self.new.in_data.sites.items) }
     {
         formed(&line.statement)?;
         once(labels, n, self, line)?;
         self.put(origins, labels, &line.statement)?;
-        if is_large(self) {
+        if is_large(self, measure) {
             return Err(Fault::Kind(AsmKind::Size));
         }
         Ok(())

@@ -1,14 +1,13 @@
 use Rattle.std.proofs.Common.{◌≡◌, ℕ, List, refl, ◌∙◌}
 use Rattle.guest_build.specs.Image.{file_of, image_of}
-use Rattle.guest_build.specs.Layout.{Sections, layout_of, sites_of}
-use Rattle.guest_build.specs.Relocations.{table_of}
-use Rattle.guest_build.specs.Views.{frame_of, drawn, sections_of}
+use Rattle.guest_build.specs.Layout.{Sections, layout_of}
+use Rattle.guest_build.specs.Views.{drawn, frame_of, sections_of}
 use Rattle.guest_build.specs.declared.layout.Frame.{Frame}
 use Rattle.guest_build.proofs.image.image_of.Goals as goal
 
-image_is : (entry : ℕ) (all : Sections) (frame : Frame) (table : List ℕ) → frame ≡ frame_of (layout_of all) → table ≡ table_of (sites_of frame.text_from frame.data_from all)
+image_is : (entry : ℕ) (all : Sections) (frame : Frame) (table : List ℕ) → frame ≡ frame_of (layout_of all) → table ≡ (layout_of all).table
     → file_of entry (drawn frame table) all ≡ image_of entry all
-unfolding image_of layout_of
+unfolding image_of
 image_is entry all frame table f t = rw (t, f) refl
 
 pub returns : goal.returns
