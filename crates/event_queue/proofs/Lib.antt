@@ -1,0 +1,9 @@
+pub mod Lists
+pub mod Numbers
+pub mod Live
+pub mod Wholes
+pub mod Steps
+pub mod Next
+pub mod Signals
+pub mod Moments
+pub mod LawLemmas

@@ -1,0 +1,15 @@
+use Rattle.std.proofs.Common.{arith}
+use Rattle.event_queue.specs.Queue.{is_kept}
+use Rattle.event_queue.proofs.Wholes.{kept_whole}
+use Rattle.event_queue.proofs.events.Events.keep_group.Goals as goal
+
+pub invariant_of-self : goal.invariant_of-self
+invariant_of-self c =
+    let k = c.keep.ensures.capacity in
+    let l = c.clear.ensures.capacity in
+    let m = c.self.invariant.1 in
+    let n = c.self.invariant.2 in (
+      rw (c.keep.ensures.kept, c.clear.ensures.items) (kept_whole _ (is_kept c.args.group.now) c.self.invariant.0),
+      omega (arith, k, m),
+      omega (arith, l, n),
+    )

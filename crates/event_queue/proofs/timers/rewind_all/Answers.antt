@@ -1,0 +1,7 @@
+use Rattle.event_queue.specs.Timers.{rewound}
+use Rattle.event_queue.proofs.Steps.{mapped_more}
+use Rattle.event_queue.proofs.timers.rewind_all.Goals as goal
+
+pub loop-event-preserved : goal.loop-event-preserved
+loop-event-preserved c =
+    mapped_more (rewound c.args.present) c.args.events.now c.loop-event.event-items c.loop-event.event-index _ c.rewound.result c.loop-event-test.true c.loop-event.auto.event-items c.loop-event.invariant c.rewound.ensures

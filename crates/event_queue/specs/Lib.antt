@@ -1,0 +1,5 @@
+pub mod Kinds
+pub mod Queue
+pub mod Timers
+pub mod Calls
+pub mod Laws
