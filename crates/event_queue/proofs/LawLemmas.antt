@@ -9,6 +9,7 @@ use Rattle.event_queue.specs.Queue.{EventList, EachOnce, greatest, next_entry, s
 use Rattle.event_queue.specs.Timers.{IsMoment, reached, first_moment, moment_ahead, has_moment, due_of, is_due, is_up_to, due_events, rewound, lesser, least_due, ticked, moment_for, next_moment}
 use Rattle.event_queue.specs.Laws.{QueuedOnce, IsNextOf, NextIsGreatest, FirstIsLeast, TicksAtMoments, IdleTicks, IsNextMoment, NextMomentIsDue}
 use Rattle.event_queue.proofs.Numbers.{not_queued_here}
+use Rattle.event_queue.proofs.Caches.{calm_tick}
 use Rattle.event_queue.proofs.Moments.{first_from, rounded_is, rounded_least}
 
 -- ---- an event stands in the queue at most once
@@ -156,22 +157,8 @@ no_due (Some a) (Some b) h = absurd (cc)
 not_due : (present : ℕ) (e : Event) → due_of e.timer ≡ None → is_due present e ≡ false
 not_due present e h = ap (is_up_to present) h
 
-idle_due : (present : ℕ) (es : List Event) → least_due es ≡ None → due_events present es ≡ []
-unfolding due_events least_due
-idle_due present [] h = refl
-idle_due present (e ∷ es) h = let k = no_due (due_of e.timer) (least_due es) h in rw (not_due present e k.0) (idle_due present es k.1)
-
-idle_same : (present : ℕ) (es : List Event) → least_due es ≡ None → map (rewound present) es ≡ es
-unfolding least_due
-idle_same present [] h = refl
-idle_same present (e ∷ es) h =
-    let k = no_due (due_of e.timer) (least_due es) h in
-    let same : rewound present e ≡ e = cond-false _ _ _ (not_due present e k.0) in
-    rw (same, idle_same present es k.1) refl
-
 pub idle_ticks : IdleTicks
-unfolding ticked signal_each
-idle_ticks = λ s present h. rw (idle_due present s.events h, idle_same present s.events h) refl
+idle_ticks = λ s present h. calm_tick s present (ap (is_up_to present) h)
 
 -- ---- the moment that comes next
 

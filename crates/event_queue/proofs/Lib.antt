@@ -7,3 +7,4 @@ pub mod Next
 pub mod Signals
 pub mod Moments
 pub mod LawLemmas
+pub mod Caches

@@ -41,3 +41,6 @@ none_next s present h = by (least_due s.events)
 pub none_next_from : (s : EventList) (present : ℕ) (r : Option ℕ) → SomeIff r (s.last_tick + 1 < 2 ^ 64) (s.last_tick + 1) → r ≡ None → None ≡ next_moment s present
 none_next_from s present None h e = none_next s present h
 none_next_from s present (Some n) h e = absurd (cc)
+
+pub none_above : (ticks : List ℕ) (last : ℕ) → (last + 1 < 2 ^ 64 → ⊥) → None ≡ reached (first_moment ticks (last + 1))
+none_above ticks last h = sym (none_reached (first_moment ticks (last + 1)) (let f = first_from ticks (last + 1) in omega (arith, f, h)))

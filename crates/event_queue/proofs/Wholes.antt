@@ -10,7 +10,7 @@ use Rattle.event_queue.specs.declared.event.Entry.{Entry}
 use Rattle.event_queue.specs.declared.timer.Timer.{Timer}
 use Rattle.uh_base.specs.declared.guid.Guid.{Guid}
 use Rattle.event_queue.specs.declared.refusal.EventRefusal.TheVariants.{Invalid}
-use Rattle.event_queue.specs.Calls.{known}
+use Rattle.event_queue.specs.Calls.{known, no_events}
 use Rattle.event_queue.specs.Kinds.{notifies, is_signal, is_wait, is_kind, is_level, can_notify, is_request}
 use Rattle.event_queue.specs.Timers.{with_timer, rewound, rewound_timer, is_due, stopped}
 use Rattle.event_queue.specs.Queue.{EventList, Whole, shown, Rising, EachOnce, is_number, is_entry, is_event, is_queued, event_at, entry_of, is_fresh, has_level, raised, lowered, raised_if, raise_one, lower_one, queue_one, without, is_entry_of}
@@ -338,3 +338,8 @@ request_level kind tpl function group h =
       | inl k ↦ or_left _ _ k
       | inr k ↦ or_right _ _ (and_parts (not (function == 0)) _ k).1
     ]
+
+-- ---- no events
+
+pub nothing_whole : (ticks : List ℕ) → Whole (no_events ticks)
+nothing_whole ticks = record { few = omega arith; made = omega arith; rising = omega arith; levels = refl; live = refl; once = tt; fresh = tt }

@@ -4,14 +4,14 @@
 ghost use Rattle.std.specs.Prelude.{◌≡◌, ◌<◌, ◌≤◌, ◌+◌, ◌-◌, ◌^◌, ◌==◌, ℕ, length, slice_get, IfOk, IfSome, IfNone, OnOk, OnErr, IsTrue, Some, None, [], nat_lt, true, false};
 ghost use Rattle.event_queue.specs.Kinds.{is_wait, is_signal};
 ghost use Rattle.event_queue.specs.Queue.{EventList, Whole, has_level, signal_each, shown, event_at, is_event, is_queued, greatest, next_entry, notified, after_next, raise_one, signalled, group_signalled, lower_one, queue_one, without, group_kept, kept_calls};
-ghost use Rattle.event_queue.specs.Timers.{has_moment, ticked, after_tick, next_moment, with_timer, all_stopped, moment_ahead, reached, due_events, all_rewound};
+ghost use Rattle.event_queue.specs.Timers.{has_moment, ticked, after_tick, next_moment, with_timer, all_stopped, due_events, all_rewound, is_up_to, least_due};
 ghost use Rattle.event_queue.specs.Calls.{no_events, creation, after_creation, with_event, known, after_signal, after_close, setting, after_setting, checking, after_check, taking, after_taking};
 
 use crate::event::{Entry, Event, Notify, place_in};
 use crate::kind::{group_for, is_request, is_signal, is_timer, is_wait};
-use crate::queue::{falling_calls, keep, next_place, place_of, unqueue};
+use crate::queue::{falling_calls, greatest, keep, next_place, place_of, unqueue};
 use crate::refusal::{Check, EventRefusal};
-use crate::ticks::first_moment;
+use crate::ticks::{first_moment, moment_above};
 use crate::timer::Timer;
 use crate::timers::{least_due, rewind_all, stop_all};
 use std::alloc::{AllocError, Global};
@@ -33,17 +33,23 @@ pub struct Events {
     made: u64,
     ticks: Vec<u64>,
     last_tick: u64,
+    // Kept beside the lists, so that nothing is walked where nothing is due: the greatest level in the queue, the least
+    // due moment, and the least tick moment above the last tick.
+    top: u64,
+    due: Option<u64>,
+    ahead: Option<u64>,
 }
 
 impl Model for Events {
-    ghost use Rattle.std.specs.Prelude.{◌≤◌, vec_capacity};
-    ghost use Rattle.event_queue.specs.Queue.{EventList, Whole};
+    ghost use Rattle.std.specs.Prelude.{◌≡◌, ◌≤◌, ◌+◌, vec_capacity};
+    ghost use Rattle.event_queue.specs.Queue.{EventList, Whole, greatest};
+    ghost use Rattle.event_queue.specs.Timers.{least_due, reached, first_moment};
 
     ghost Value = { EventList };
 
     ghost view = { λ e. record { events = e.events.items; queue = e.queue.items; made = e.made; ticks = e.ticks.items; last_tick = e.last_tick } };
 
-    ghost invariant = { λ e. Whole (record { events = e.events.items; queue = e.queue.items; made = e.made; ticks = e.ticks.items; last_tick = e.last_tick }) × (256 ≤ vec_capacity e.events) × (256 ≤ vec_capacity e.queue) };
+    ghost invariant = { λ e. Whole (record { events = e.events.items; queue = e.queue.items; made = e.made; ticks = e.ticks.items; last_tick = e.last_tick }) × (256 ≤ vec_capacity e.events) × (256 ≤ vec_capacity e.queue) × (e.top ≡ greatest e.queue.items) × (e.due ≡ least_due e.events.items) × (e.ahead ≡ reached (first_moment e.ticks.items (e.last_tick + 1))) };
 }
 
 impl Events {
@@ -52,12 +58,16 @@ impl Events {
     pub fn new(alloc: Global, ticks: Vec<u64>) -> Result<Events, AllocError>
         ensures { IfOk result (λ events. events ≡ no_events ticks.items) }
     {
+        let ahead = moment_above(ticks.as_slice(), 0);
         Ok(Events {
             events: Vec::with_capacity(alloc, MOST)?,
             queue: Vec::with_capacity(alloc, MOST)?,
             made: 0,
             ticks,
             last_tick: 0,
+            top: 0,
+            due: None,
+            ahead,
         })
     }
 
@@ -139,7 +149,7 @@ impl Events {
         requires made { self.old.made < 2 ^ 60 - 1 }
         requires number { event.number ≡ shown (self.old.made + 1) }
         requires level { has_level event ≡ true }
-        requires quiet { event.signalled ≡ false }
+        requires timer { event.timer ≡ Timer.Stopped }
         ensures { self.new ≡ with_event self.old event }
     {
         self.events.push_reserved(event);
@@ -161,6 +171,7 @@ impl Events {
         };
         if is_signal(event.kind) {
             self.queue.push_reserved(event.entry());
+            self.top = self.top.max(event.tpl);
         }
     }
 
@@ -212,6 +223,8 @@ impl Events {
     {
         unqueue(&mut self.queue, event.number);
         self.events.remove(place);
+        self.top = greatest(self.queue.as_slice());
+        self.due = least_due(self.events.as_slice());
     }
 
     /// Closes an event, as CloseEvent does (UEFI 2.10, section 7.1): it is no event any more, and its notification is
@@ -236,6 +249,7 @@ impl Events {
         ensures { self.new ≡ with_timer self.old event.number timer }
     {
         self.events[place] = Event { timer, ..event };
+        self.due = least_due(self.events.as_slice());
     }
 
     /// Sets the timer of an event, as SetTimer does (UEFI 2.10, section 7.1). Kind 0 cancels, kind 1 is periodic and
@@ -284,6 +298,7 @@ impl Events {
     {
         if place_of(self.queue.as_slice(), event.number).is_none() {
             self.queue.push_reserved(event.entry());
+            self.top = self.top.max(event.tpl);
         }
     }
 
@@ -354,34 +369,64 @@ impl Events {
     {
         rewind_all(self.events.as_mut_slice(), now);
         self.last_tick = now;
+        self.due = least_due(self.events.as_slice());
+        self.ahead = moment_above(self.ticks.as_slice(), now);
     }
 
-    /// The least tick moment above the last tick, None above 2^64 - 1.
-    fn moment_ahead(&self) -> Option<u64>
-        ensures { result ≡ reached (moment_ahead self.now) }
+    /// A tick at which no timer is due.
+    fn pass(&mut self, now: u64)
+        ensures { self.new ≡ record self.old { last_tick = now } }
     {
-        match self.last_tick.checked_add(1) {
-            Some(ahead) => first_moment(self.ticks.as_slice(), ahead),
-            None => None,
+        self.last_tick = now;
+        self.ahead = moment_above(self.ticks.as_slice(), now);
+    }
+
+    /// Whether a running timer is due at most at a moment.
+    fn has_due(&self, now: u64) -> bool
+        ensures { result ≡ is_up_to now (least_due self.now.events) }
+    {
+        match self.due {
+            Some(due) => due <= now,
+            None => false,
+        }
+    }
+
+    /// Whether a tick moment lies above the last tick and at most at a moment.
+    #[tactic(auto, unfolding(crate::specs::Timers::has_moment))]
+    fn has_moment(&self, now: u64) -> bool
+        ensures { result ≡ has_moment self.now now }
+    {
+        match self.ahead {
+            Some(ahead) => ahead <= now,
+            None => false,
+        }
+    }
+
+    /// A tick at a moment.
+    fn make_tick(&mut self, now: u64)
+        ensures { self.new ≡ ticked self.old now }
+    {
+        if self.has_due(now) {
+            self.signal_due(now);
+            self.rewind(now);
+        } else {
+            self.pass(now);
         }
     }
 
     /// A tick, where a tick moment lies above the last tick and at most at `now`; else false, and nothing changes. Each
     /// running timer that is due at most at `now` signals its event, in order of making. A relative timer then stops,
     /// and a periodic one is due its period after `now`. It takes no memory.
-    #[tactic(auto, unfolding(crate::specs::Timers::after_tick, crate::specs::Timers::has_moment, crate::specs::Timers::ticked))]
+    #[tactic(auto, unfolding(crate::specs::Timers::after_tick))]
     pub fn tick(&mut self, now: u64) -> bool
         ensures answer { result ≡ has_moment self.old now }
         ensures events { self.new ≡ after_tick self.old now }
     {
-        match self.moment_ahead() {
-            Some(moment) if moment <= now => {
-                self.signal_due(now);
-                self.rewind(now);
-                true
-            }
-            _ => false,
+        if !self.has_moment(now) {
+            return false;
         }
+        self.make_tick(now);
+        true
     }
 
     /// Takes the notification that comes next from the queue: the earliest of the greatest level, where that is above
@@ -391,13 +436,15 @@ impl Events {
         ensures answer { result ≡ notified self.old.events (next_entry self.old.queue tpl) }
         ensures events { self.new ≡ after_next self.old (next_entry self.old.queue tpl) }
     {
-        let Some((queued, entry)) = next_place(self.queue.as_slice(), u64::from(tpl)) else {
+        let Some((queued, entry)) = next_place(self.queue.as_slice(), self.top, u64::from(tpl))
+        else {
             return None;
         };
         let Some((place, event)) = self.find(entry.event) else {
             unreachable!();
         };
         self.queue.remove(queued);
+        self.top = greatest(self.queue.as_slice());
         self.events[place] = Event {
             signalled: false,
             ..event
@@ -416,10 +463,7 @@ impl Events {
     pub fn next_moment(&self, now: u64) -> Option<u64>
         ensures { result ≡ next_moment self.now now }
     {
-        match (
-            self.last_tick.checked_add(1),
-            least_due(self.events.as_slice()),
-        ) {
+        match (self.last_tick.checked_add(1), self.due) {
             (Some(ahead), Some(due)) => {
                 first_moment(self.ticks.as_slice(), ahead.max(now.max(due)))
             }
@@ -433,6 +477,7 @@ impl Events {
         ensures { self.new ≡ all_stopped self.old }
     {
         stop_all(self.events.as_mut_slice());
+        self.due = None;
     }
 
     /// Drops the queue and all events but those of a group that have EVT_NOTIFY_SIGNAL. It gives the functions of
@@ -446,6 +491,8 @@ impl Events {
         let calls = falling_calls(*self.events.allocator(), self.events.as_slice(), group)?;
         keep(&mut self.events, group);
         self.queue.clear();
+        self.top = 0;
+        self.due = least_due(self.events.as_slice());
         Ok(calls)
     }
 }

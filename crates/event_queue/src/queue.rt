@@ -46,12 +46,12 @@ fn place_at(queue: &[Entry], tpl: u64) -> Option<usize>
 }
 
 /// The earliest notification of the greatest level, where that is above a level, and its place.
-pub fn next_place(queue: &[Entry], tpl: u64) -> Option<(usize, Entry)>
+pub fn next_place(queue: &[Entry], top: u64, tpl: u64) -> Option<(usize, Entry)>
+    requires { top ≡ greatest queue.now }
     ensures none { IfNone result (next_entry queue.now tpl ≡ None) }
     ensures here { IfSome result (λ next. slice_get queue.now next.0 ≡ Some next.1) }
     ensures some { IfSome result (λ next. next_entry queue.now tpl ≡ Some next.1) }
 {
-    let top = greatest(queue);
     if top <= tpl {
         return None;
     }

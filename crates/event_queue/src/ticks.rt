@@ -40,3 +40,13 @@ pub fn first_moment(ticks: &[u64], low: u64) -> Option<u64>
     }
     lesser(first, rounded(low))
 }
+
+/// The least tick moment above a moment, by the list of further ones. None above 2^64 - 1.
+pub fn moment_above(ticks: &[u64], last: u64) -> Option<u64>
+    ensures { result ≡ reached (first_moment ticks.now (last + 1)) }
+{
+    match last.checked_add(1) {
+        Some(low) => first_moment(ticks, low),
+        None => None,
+    }
+}

@@ -1,7 +1,9 @@
-use Rattle.std.proofs.Common.{length, arith, ap, ◌<◌, ◌≡◌, ◌+◌, ◌-◌, ◌^◌}
+use Rattle.std.proofs.Common.{length, arith, ap, sym, ◌∙◌, ◌<◌, ◌≡◌, ◌+◌, ◌-◌, ◌^◌}
 use Rattle.event_queue.specs.Queue.{EventList, shown}
+use Rattle.event_queue.specs.Timers.{least_due}
 use Rattle.event_queue.specs.Calls.{with_event}
 use Rattle.event_queue.proofs.Wholes.{add_whole}
+use Rattle.event_queue.proofs.Caches.{due_push}
 use Rattle.event_queue.proofs.events.Events.add.Goals as goal
 
 pub invariant_of-self : goal.invariant_of-self
@@ -15,6 +17,9 @@ invariant_of-self c =
       rw c.push_reserved.ensures.items (add_whole _ c.args.event c.self.invariant.0 few made number c.requires.level),
       (let k = c.push_reserved.ensures.capacity in let i = c.self.invariant.1 in omega (arith, k, i)),
       c.self.invariant.2,
+      c.self.invariant.3,
+      c.self.invariant.4 ∙ sym (ap least_due c.push_reserved.ensures.items ∙ due_push c.self.inside.events.items c.args.event c.requires.timer),
+      c.self.invariant.5,
     )
 
 pub returns : goal.returns

@@ -1,5 +1,6 @@
 use Rattle.std.proofs.Common.{arith}
 use Rattle.event_queue.specs.Queue.{is_kept}
+use Rattle.event_queue.proofs.Caches.{nothing_queued}
 use Rattle.event_queue.proofs.Wholes.{kept_whole}
 use Rattle.event_queue.proofs.events.Events.keep_group.Goals as goal
 
@@ -12,4 +13,7 @@ invariant_of-self c =
       rw (c.keep.ensures.kept, c.clear.ensures.items) (kept_whole _ (is_kept c.args.group.now) c.self.invariant.0),
       omega (arith, k, m),
       omega (arith, l, n),
+      rw c.clear.ensures.items nothing_queued,
+      (cc),
+      c.self.invariant.5,
     )

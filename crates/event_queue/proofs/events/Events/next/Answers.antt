@@ -1,6 +1,7 @@
-use Rattle.std.proofs.Common.{◌∙◌, sym, ap, arith}
+use Rattle.std.proofs.Common.{◌∙◌, sym, ap, arith, refl}
 use Rattle.std.specs.Prelude.{slice_get}
-use Rattle.event_queue.specs.Queue.{EventList, event_at, next_entry}
+use Rattle.event_queue.specs.Queue.{EventList, lowered, event_at, next_entry}
+use Rattle.event_queue.proofs.Caches.{due_set}
 use Rattle.event_queue.proofs.Wholes.{get_below}
 use Rattle.event_queue.proofs.Next.{next_whole, next_is, has_event, entry_level, some_next}
 use Rattle.event_queue.proofs.events.Events.next.Goals as goal
@@ -37,6 +38,9 @@ invariant_of-self c =
       rw c.remove.ensures.items (next_whole _ c.in-Some-find.place c.in-Some.queued c.in-Some-find.event c.in-Some.entry c.self.invariant.0 here queued c.in-Some-find.ensures.number),
       c.self.invariant.1,
       omega (arith, k, l),
+      (cc),
+      c.self.invariant.4 ∙ sym (due_set c.in-Some-find.place c.self.inside.events.items c.in-Some-find.event (lowered c.in-Some-find.event) here refl),
+      c.self.invariant.5,
     )
 
 pub returns-clause-events : goal.returns-clause-events

@@ -20,6 +20,9 @@ invariant_of-self c =
       rw (c.remove.ensures.items, c.unqueue.ensures.items) (without_whole _ c.args.place c.args.event c.self.invariant.0 here),
       omega (arith, k, m),
       omega (arith, l, n),
+      (cc),
+      (cc),
+      c.self.invariant.5,
     )
 
 pub returns : goal.returns

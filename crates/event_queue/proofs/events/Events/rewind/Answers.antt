@@ -12,4 +12,7 @@ invariant_of-self c =
       rw (back, is, value) (rewound_whole _ c.args.now c.self.invariant.0),
       c.self.invariant.1,
       c.self.invariant.2,
+      c.self.invariant.3,
+      (cc),
+      (cc),
     )

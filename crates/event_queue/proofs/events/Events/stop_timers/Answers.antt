@@ -1,4 +1,5 @@
-use Rattle.std.proofs.Common.{arith, ap, length}
+use Rattle.std.proofs.Common.{arith, ap, length, sym}
+use Rattle.event_queue.proofs.Caches.{due_stopped}
 use Rattle.event_queue.proofs.Wholes.{stopped_whole, written_back}
 use Rattle.event_queue.proofs.events.Events.stop_timers.Goals as goal
 
@@ -12,4 +13,7 @@ invariant_of-self c =
       rw (back, is, value) (stopped_whole _ c.self.invariant.0),
       c.self.invariant.1,
       c.self.invariant.2,
+      c.self.invariant.3,
+      rw (back, is, value) (sym (due_stopped c.self.inside.events.items)),
+      c.self.invariant.5,
     )
