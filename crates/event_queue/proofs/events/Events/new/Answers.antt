@@ -9,8 +9,7 @@ invariant_of-result c =
     let e = c.in_ok-with_capacity.ensures.items in
     let q = c.in_ok-with_capacity-2.ensures.items in
     let m = c.in_ok-with_capacity.ensures.capacity in
-    let n = c.in_ok-with_capacity-2.ensures.capacity in
-    (
+    let n = c.in_ok-with_capacity-2.ensures.capacity in (
       rw (e, q) (nothing_whole c.args.ticks.items),
       omega (arith, m),
       omega (arith, n),

@@ -19,10 +19,14 @@ invariant_of-self c =
     let here = ap (λ (s : EventList). slice_get s.events c.args.place) c.self.view_is ∙ c.requires.event in
     let free = is_unplaced c.self.inside.queue.items c.as_slice.result.now c.args.event.number c.place_of.result c.is_none.result c.as_slice.ensures.value c.place_of.ensures c.is_none.ensures c.if-is_none.true in
     let l = c.self.invariant.2 in
-    let k = c.push_reserved.ensures.capacity in
-    (rw (c.push_reserved.ensures.items, c.entry.ensures) (wait_whole _ c.args.place c.args.event c.self.invariant.0 here c.requires.wait c.requires.kind free), c.self.invariant.1, omega (arith, k, l),
-     top_pushed c.self.inside.queue.items _ c.entry.result c.self.inside.top c.max-self-inside.result c.push_reserved.ensures.items c.self.invariant.3 (c.max-self-inside.ensures ∙ ap (λ (x : Entry). max c.self.inside.top x.tpl) (sym c.entry.ensures)),
-     c.self.invariant.4, c.self.invariant.5)
+    let k = c.push_reserved.ensures.capacity in (
+      rw (c.push_reserved.ensures.items, c.entry.ensures) (wait_whole _ c.args.place c.args.event c.self.invariant.0 here c.requires.wait c.requires.kind free),
+      c.self.invariant.1,
+      omega (arith, k, l),
+      top_pushed c.self.inside.queue.items _ c.entry.result c.self.inside.top c.max-self-inside.result c.push_reserved.ensures.items c.self.invariant.3 (c.max-self-inside.ensures ∙ ap (λ (x : Entry). max c.self.inside.top x.tpl) (sym c.entry.ensures)),
+      c.self.invariant.4,
+      c.self.invariant.5,
+    )
 
 pub returns-then-is_none : goal.returns-then-is_none
 returns-then-is_none c =
