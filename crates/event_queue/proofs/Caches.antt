@@ -1,14 +1,13 @@
 -- What is kept beside the lists: the greatest level in the queue and the least due moment.
-use Rattle.std.proofs.Common.{◌≡◌, ℕ, zero, suc, ◌+◌, ◌<◌, ◌≤◌, min, max, List, [], ◌∷◌, ◌++◌, map, length, set, refl, sym, ap, ◌∙◌, arith, Bool, true, false}
-use Rattle.std.specs.Prelude.{nat_le, Option, Some, None, if◌then◌else◌, slice_get}
-use Rattle.std.specs.List.{filter}
-use Rattle.std.proofs.lemmas.Bool.{leb-true, leb-false, lt-leb, cond-false, true≢false}
+use Rattle.std.proofs.Common.{◌≡◌, ℕ, zero, suc, min, max, List, [], ◌∷◌, ◌++◌, map, set, refl, sym, ap, ◌∙◌, arith, false}
+use Rattle.std.specs.Prelude.{Option, Some, None, slice_get}
+use Rattle.std.proofs.lemmas.Bool.{leb-false, lt-leb, cond-false}
 use Rattle.event_queue.specs.declared.event.Event.{Event}
 use Rattle.event_queue.specs.declared.event.Entry.{Entry}
 use Rattle.event_queue.specs.declared.timer.Timer.{Timer}
 use Rattle.event_queue.specs.declared.timer.Timer.TheVariants.{Stopped}
 use Rattle.event_queue.specs.Queue.{EventList, greatest, signal_each}
-use Rattle.event_queue.specs.Timers.{due_of, is_due, is_up_to, due_events, rewound, stopped, lesser, least_due, ticked}
+use Rattle.event_queue.specs.Timers.{due_of, is_up_to, due_events, rewound, stopped, lesser, least_due, ticked}
 
 pub greatest_push : (q : List Entry) (x : Entry) → greatest (q ++ x ∷ []) ≡ max (greatest q) x.tpl
 unfolding greatest

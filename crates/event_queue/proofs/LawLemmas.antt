@@ -1,12 +1,12 @@
 -- The laws.
-use Rattle.std.proofs.Common.{◌≡◌, ℕ, zero, suc, ◌+◌, ◌-◌, ◌^◌, ◌<◌, ◌≤◌, min, max, List, [], ◌∷◌, map, refl, sym, ap, ◌∙◌, subst, arith, Bool, true, false, inl, inr}
+use Rattle.std.proofs.Common.{◌≡◌, ℕ, zero, suc, ◌+◌, ◌-◌, ◌^◌, ◌<◌, ◌≤◌, min, max, List, [], ◌∷◌, refl, sym, ap, ◌∙◌, subst, arith, Bool, true, false, inl, inr}
 use Rattle.std.specs.Prelude.{◌==◌, nat_le, nat_lt, Option, Some, None, if◌then◌else◌, slice_get}
 use Rattle.std.specs.List.{find}
-use Rattle.std.proofs.lemmas.Bool.{le-leb, leb-true, leb-false, ltb-true, ltb-false, cond-true, cond-false, cases_Bool, eqb-true, eqb-false, true≢false}
+use Rattle.std.proofs.lemmas.Bool.{le-leb, leb-true, leb-false, ltb-true, ltb-false, cond-true, cases_Bool, eqb-true, eqb-false, true≢false}
 use Rattle.event_queue.specs.declared.event.Event.{Event}
 use Rattle.event_queue.specs.declared.event.Entry.{Entry}
-use Rattle.event_queue.specs.Queue.{EventList, EachOnce, greatest, next_entry, signal_each}
-use Rattle.event_queue.specs.Timers.{IsMoment, reached, first_moment, moment_ahead, has_moment, due_of, is_due, is_up_to, due_events, rewound, lesser, least_due, ticked, moment_for, next_moment}
+use Rattle.event_queue.specs.Queue.{EventList, EachOnce, greatest, next_entry}
+use Rattle.event_queue.specs.Timers.{IsMoment, reached, first_moment, moment_ahead, has_moment, due_of, is_due, is_up_to, lesser, least_due, moment_for, next_moment}
 use Rattle.event_queue.specs.Laws.{QueuedOnce, IsNextOf, NextIsGreatest, FirstIsLeast, TicksAtMoments, IdleTicks, IsNextMoment, NextMomentIsDue}
 use Rattle.event_queue.proofs.Numbers.{not_queued_here}
 use Rattle.event_queue.proofs.Caches.{calm_tick}

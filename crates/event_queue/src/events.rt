@@ -1,9 +1,9 @@
 //! The events of a machine.
 #![tactic(auto)]
 
-ghost use Rattle.std.specs.Prelude.{◌≡◌, ◌<◌, ◌≤◌, ◌+◌, ◌-◌, ◌^◌, ◌==◌, ℕ, length, slice_get, IfOk, IfSome, IfNone, OnOk, OnErr, IsTrue, Some, None, [], nat_lt, true, false};
+ghost use Rattle.std.specs.Prelude.{◌≡◌, ◌<◌, ◌≤◌, ◌+◌, ◌-◌, ◌^◌, length, slice_get, IfOk, IfSome, IfNone, OnOk, OnErr, Some, None, true, false};
 ghost use Rattle.event_queue.specs.Kinds.{is_wait, is_signal};
-ghost use Rattle.event_queue.specs.Queue.{EventList, Whole, has_level, signal_each, shown, event_at, is_event, is_queued, greatest, next_entry, notified, after_next, raise_one, signalled, group_signalled, lower_one, queue_one, without, group_kept, kept_calls};
+ghost use Rattle.event_queue.specs.Queue.{EventList, Whole, has_level, signal_each, shown, event_at, is_event, greatest, next_entry, notified, after_next, raise_one, signalled, group_signalled, lower_one, queue_one, without, group_kept, kept_calls};
 ghost use Rattle.event_queue.specs.Timers.{has_moment, ticked, after_tick, next_moment, with_timer, all_stopped, due_events, all_rewound, is_up_to, least_due};
 ghost use Rattle.event_queue.specs.Calls.{no_events, creation, after_creation, with_event, known, after_signal, after_close, setting, after_setting, checking, after_check, taking, after_taking};
 

@@ -1,9 +1,8 @@
 //! Types of events, and their groups.
 #![tactic(auto)]
 
-ghost use Rattle.std.specs.Prelude.{◌≡◌, ◌<◌, IsTrue};
-ghost use Rattle.std.specs.Option.{option_copied};
-ghost use Rattle.event_queue.specs.Kinds.{is_timer, is_wait, is_signal, notifies, names_group, is_kind, can_notify, can_group, is_request, exit_group, virtual_group, group_for, is_same};
+ghost use Rattle.std.specs.Prelude.{◌≡◌};
+ghost use Rattle.event_queue.specs.Kinds.{is_timer, is_wait, is_signal, names_group, is_kind, can_notify, can_group, is_request, group_for, is_same};
 
 use uh_base::Guid;
 

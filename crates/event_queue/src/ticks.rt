@@ -1,7 +1,7 @@
 //! Tick moments.
 #![tactic(auto)]
 
-ghost use Rattle.std.specs.Prelude.{◌≡◌, ◌≤◌, ◌<◌, ◌+◌, ◌^◌, IfSome, IfNone};
+ghost use Rattle.std.specs.Prelude.{◌≡◌, ◌+◌};
 ghost use Rattle.event_queue.specs.Timers.{first_moment, rounded, reached, lesser};
 
 /// Tick moments are the positive multiples of this many units of 100 ns, a millisecond, and the listed ones.

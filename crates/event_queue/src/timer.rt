@@ -1,7 +1,7 @@
 //! Timers.
 #![tactic(auto)]
 
-ghost use Rattle.std.specs.Prelude.{◌≡◌, ◌^◌, ◌≤◌};
+ghost use Rattle.std.specs.Prelude.{◌≡◌, ◌≤◌};
 ghost use Rattle.event_queue.specs.Timers.{later, timer_for, due_of, rewound_timer};
 
 /// The timer of an event. A moment is in units of 100 ns.
