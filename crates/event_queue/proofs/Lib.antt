@@ -8,3 +8,4 @@ pub mod Signals
 pub mod Moments
 pub mod LawLemmas
 pub mod Caches
+pub mod Search

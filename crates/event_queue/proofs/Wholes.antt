@@ -257,8 +257,8 @@ unqueue_none q part n e f = sym (all_left (is_entry n) q (place_none (is_entry n
 
 -- ---- an event found
 
-pub find_none : (es part : List Event) (n : ℕ) → part ≡ es → None ≡ position (is_number n) part → event_at es n ≡ None
-find_none es part n e f = none_found (is_number n) es (place_none (is_number n) es (ap (position (is_number n)) (sym e) ∙ sym f))
+pub find_none : (es part : List Event) (n : ℕ) → part ≡ es → is_event part n ≡ false → event_at es n ≡ None
+find_none es part n e f = none_found (is_number n) es (ap (λ xs. is_event xs n) (sym e) ∙ f)
 
 pub read_here : (es : List Event) (i : ℕ) (e : Event) → i < length es → e ≡ get_or es i e → slice_get es i ≡ Some e
 read_here es i e h r = slice_get-get_or es i e h ∙ ap Some (sym r)
@@ -270,18 +270,11 @@ pub record Found (es : List Event) (n i : ℕ) (e : Event) : Type 0 where
   pub event : event_at es n ≡ Some e
   pub number : e.number ≡ n
 
-pub find_below : (es part : List Event) (n i : ℕ) → part ≡ es → Some i ≡ position (is_number n) part → i < length es
-find_below es part n i e f =
-    let k = place_some (is_number n) es i (ap (position (is_number n)) (sym e) ∙ sym f) in get_below i es k.0 k.1
-
-pub find_some : (low high : ℕ) (es part : List Event) (n i : ℕ) (e : Event) → Rising low es high → part ≡ es → Some i ≡ position (is_number n) part → e ≡ get_or es i e → Found es n i e
-find_some low high es part n i e w p f r =
-    let k = place_some (is_number n) es i (ap (position (is_number n)) (sym p) ∙ sym f) in
-    let below = get_below i es k.0 k.1 in
+pub find_some : (low high : ℕ) (es part : List Event) (n i : ℕ) (e : Event) → Rising low es high → part ≡ es → i < length part → ((d : Event) → (get_or part i d).number ≡ n) → e ≡ get_or es i e → Found es n i e
+find_some low high es part n i e w p l f r =
+    let below : i < length es = (let k = ap length p in omega (arith, k, l)) in
     let here = read_here es i e below r in
-    let both : Some k.0 ≡ Some e = sym k.1 ∙ here in
-    let same : k.0 ≡ e = cc in
-    let number : e.number ≡ n = ap (λ (x : Event). x.number) (sym same) ∙ eqb-true k.0.number n k.2 in
+    let number : e.number ≡ n = ap (λ (x : Event). x.number) r ∙ (ap (λ xs. (get_or xs i e).number) (sym p) ∙ f e) in
     record {
       below = below;
       here = here;

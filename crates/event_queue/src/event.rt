@@ -1,8 +1,8 @@
 //! Events, and their notifications.
 #![tactic(auto)]
 
-ghost use Rattle.std.specs.Prelude.{◌≡◌, position};
-ghost use Rattle.event_queue.specs.Queue.{in_group, entry_of, is_kept, is_number};
+ghost use Rattle.std.specs.Prelude.{◌≡◌, ◌<◌, false, length, slice_index_or, IfSome, IfNone};
+ghost use Rattle.event_queue.specs.Queue.{in_group, entry_of, is_kept, is_event, AreRising};
 ghost use Rattle.event_queue.specs.Timers.{is_due, stopped, rewound};
 
 use crate::kind::{is_same, is_signal};
@@ -115,9 +115,15 @@ impl Event {
     }
 }
 
-/// The place of the event of a number.
+/// The place of the event of a number, among events whose numbers rise.
 pub fn place_in(events: &[Event], number: u64) -> Option<usize>
-    ensures { result ≡ position (is_number number) events.now }
+    requires { AreRising events.now }
+    ensures none { IfNone result (is_event events.now number ≡ false) }
+    ensures inside { IfSome result (λ place. place < length events.now) }
+    ensures number { IfSome result (λ place. (d : Event) → (slice_index_or events.now place d).number ≡ number) }
 {
-    events.iter().position(|event| event.number == number)
+    match events.binary_search_by_key(&number, |event| event.number) {
+        Ok(place) => Some(place),
+        Err(_) => None,
+    }
 }
