@@ -1,0 +1,45 @@
+//! The places of variables.
+#![tactic(auto)]
+
+ghost use Rattle.std.specs.Prelude.{◌≡◌, ◌<◌, ◌≤◌, length, IfSome};
+ghost use Rattle.variable_store.specs.Entries.{index_of, is_seen, place_of, seen_from};
+
+use crate::variable::Variable;
+use uh_base::Guid;
+
+/// The place of a variable that is seen, by its name and vendor.
+pub fn place_of(variables: &[Variable], name: &[u16], vendor: &Guid, runtime: bool) -> Option<usize>
+    ensures place { result ≡ place_of variables.now name.now vendor.now runtime }
+    ensures inside { IfSome result (λ place. place < length variables.now) }
+{
+    for (index, variable) in variables.iter().enumerate() {
+        if variable.is_found(name, vendor, runtime) {
+            return Some(index);
+        }
+    }
+    None
+}
+
+/// The place of the first variable that is seen.
+fn first_seen(variables: &[Variable], runtime: bool) -> Option<usize>
+    ensures place { result ≡ index_of (is_seen runtime) variables.now }
+    ensures inside { IfSome result (λ place. place < length variables.now) }
+{
+    for (index, variable) in variables.iter().enumerate() {
+        if variable.is_seen(runtime) {
+            return Some(index);
+        }
+    }
+    None
+}
+
+/// The place of the first variable that is seen, from a place on.
+pub fn seen_from(variables: &[Variable], runtime: bool, from: usize) -> Option<usize>
+    requires { from ≤ length variables.now }
+    ensures { result ≡ seen_from runtime variables.now from }
+{
+    match first_seen(&variables[from..], runtime) {
+        Some(index) => Some(from + index),
+        None => None,
+    }
+}

@@ -1,0 +1,2 @@
+//! Variables worked by hand.
+#![tactic(auto)]

@@ -1,0 +1,89 @@
+//! One variable.
+#![tactic(auto)]
+
+ghost use Rattle.std.specs.Prelude.{◌≡◌, ◌≤◌, ◌&&◌};
+ghost use Rattle.variable_store.specs.Entries.{same_guid, is_named, is_seen, is_non_volatile, is_runtime, is_append, cost};
+
+use std::marker::Model;
+use uh_base::Guid;
+
+/// EFI_VARIABLE_NON_VOLATILE: the variable outlives the run (UEFI 2.10, section 8.2, GetVariable).
+pub const NON_VOLATILE: u32 = 1;
+
+/// EFI_VARIABLE_RUNTIME_ACCESS: the variable is seen after the end of boot services.
+pub const RUNTIME_ACCESS: u32 = 4;
+
+/// EFI_VARIABLE_APPEND_WRITE: bytes are put behind those that are there.
+pub const APPEND_WRITE: u32 = 0x40;
+
+/// A variable: who owns its name, the units of its name without an end, its attributes, and its bytes.
+#[derive(Debug, Drop)]
+pub struct Variable {
+    pub vendor: Guid,
+    pub name: Vec<u16>,
+    pub attributes: u32,
+    pub payload: Vec<u8>,
+}
+
+impl Model for Variable {
+    ghost use Rattle.variable_store.specs.Entries.{Entry};
+
+    ghost Value = { Entry };
+
+    ghost view = { λ v. record { vendor = v.vendor; name = v.name.items; attributes = v.attributes; payload = v.payload.items } };
+}
+
+pub fn is_non_volatile(attributes: u32) -> bool
+    ensures { result ≡ is_non_volatile attributes }
+{
+    attributes & NON_VOLATILE != 0
+}
+
+pub fn is_runtime(attributes: u32) -> bool
+    ensures { result ≡ is_runtime attributes }
+{
+    attributes & RUNTIME_ACCESS != 0
+}
+
+pub fn is_append(attributes: u32) -> bool
+    ensures { result ≡ is_append attributes }
+{
+    attributes & APPEND_WRITE != 0
+}
+
+fn same_guid(a: &Guid, b: &Guid) -> bool
+    ensures { result ≡ same_guid a.now b.now }
+{
+    a.d1 == b.d1 && a.d2 == b.d2 && a.d3 == b.d3 && a.d4 == b.d4
+}
+
+impl Variable {
+    /// It has this name of this vendor.
+    pub fn is_named(&self, name: &[u16], vendor: &Guid) -> bool
+        ensures { result ≡ is_named name.now vendor.now self.now }
+    {
+        same_guid(&self.vendor, vendor) && self.name.as_slice() == name
+    }
+
+    /// It is seen: after the end of boot services it needs runtime access.
+    pub fn is_seen(&self, runtime: bool) -> bool
+        ensures { result ≡ is_seen runtime self.now }
+    {
+        !runtime || is_runtime(self.attributes)
+    }
+
+    /// It is seen under a name of a vendor.
+    pub fn is_found(&self, name: &[u16], vendor: &Guid, runtime: bool) -> bool
+        ensures { result ≡ (is_seen runtime self.now && is_named name.now vendor.now self.now) }
+    {
+        self.is_seen(runtime) && self.is_named(name, vendor)
+    }
+
+    /// What it takes of the room: 32 bytes, two for each unit of its name and for its end, and its bytes.
+    pub fn cost(&self) -> u64
+        requires { cost self.now ≤ 65_536 }
+        ensures { result ≡ cost self.now }
+    {
+        34 + 2 * self.name.len() as u64 + self.payload.len() as u64
+    }
+}
