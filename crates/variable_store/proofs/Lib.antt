@@ -1,1 +1,4 @@
 pub mod PlaceLemmas
+pub mod NameLemmas
+pub mod EditLemmas
+pub mod SetLemmas

@@ -1,6 +1,6 @@
 -- Setting a variable: the order of the refusals, and the variables behind a set that none refuses (UEFI 2.10,
 -- section 8.2, SetVariable).
-use Rattle.std.specs.Prelude.{ℕ, zero, suc, ◌≡◌, ◌+◌, ◌-◌, ◌*◌, ◌==◌, ◌&&◌, ◌||◌, not, nat_lt, bit_and, bit_or, Bool, true, false, List, [], ◌∷◌, ◌++◌, length, remove, slice_get, is_some, Option, Some, None, Result, Ok, Err, if◌then◌else◌}
+use Rattle.std.specs.Prelude.{ℕ, zero, suc, ◌≡◌, ◌-◌, ◌==◌, ◌&&◌, ◌||◌, not, nat_lt, bit_and, bit_or, Bool, false, List, [], ◌∷◌, ◌++◌, length, remove, slice_get, is_some, Option, Some, None, Result, Ok, Err, if◌then◌else◌}
 use Rattle.uh_base.specs.declared.guid.Guid.{Guid}
 use Rattle.variable_store.specs.declared.asked.Asked.{Asked}
 use Rattle.variable_store.specs.declared.refusal.VarRefusal.{VarRefusal}
@@ -106,8 +106,12 @@ changed_at change (entry ∷ entries) (suc place) = entry ∷ changed_at change 
 abbrev pub written : ℕ → List ℕ → Entry → Entry
 written attributes bytes entry = record entry { payload = if is_append attributes then entry.payload ++ bytes else bytes }
 
+-- a new variable
+abbrev pub new_entry : List ℕ → Guid → ℕ → List ℕ → Entry
+new_entry name vendor attributes bytes = record { vendor = vendor; name = name; attributes = kept_bits attributes; payload = bytes }
+
 abbrev pub with_bytes : List Entry → List ℕ → Guid → ℕ → List ℕ → Option ℕ → List Entry
-with_bytes entries name vendor attributes bytes None = entries ++ record { vendor = vendor; name = name; attributes = kept_bits attributes; payload = bytes } ∷ []
+with_bytes entries name vendor attributes bytes None = entries ++ new_entry name vendor attributes bytes ∷ []
 with_bytes entries name vendor attributes bytes (Some place) = changed_at (written attributes bytes) entries place
 
 abbrev pub without : List Entry → Option ℕ → List Entry

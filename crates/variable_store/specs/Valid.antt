@@ -1,5 +1,5 @@
 -- What is so of all variables.
-use Rattle.std.specs.Prelude.{ℕ, ◌≡◌, ◌<◌, ◌≤◌, ◌^◌, false, List, [], ◌∷◌, length, slice_index}
+use Rattle.std.specs.Prelude.{ℕ, ◌≡◌, ◌<◌, ◌≤◌, ◌^◌, false, List, [], ◌∷◌, length}
 use Rattle.uh_base.specs.declared.guid.Guid.{Guid}
 use Rattle.uh_base.specs.Guid.{IsGuid}
 use Rattle.variable_store.specs.Entries.{Entry, is_named, total}

@@ -1,8 +1,9 @@
 //! A set that is asked for, and why it is refused.
 #![tactic(auto)]
 
-ghost use Rattle.std.specs.Prelude.{◌≡◌, option_copied};
+ghost use Rattle.std.specs.Prelude.{◌≡◌, ◌≢◌, IfSome, option_copied};
 ghost use Rattle.variable_store.specs.Sets.{is_bad_name, has_other_bits, lacks_boot_access, is_nothing, is_removal, is_write, is_protected, cannot_be_made, is_barred, is_missed, is_other, need, is_past, refusals, first_refusal};
+ghost use Rattle.variable_store.specs.declared.refusal.VarRefusal.TheVariants.{Memory};
 
 use crate::refusal::VarRefusal;
 use crate::variable::{Variable, is_append, is_non_volatile, is_runtime};
@@ -124,7 +125,8 @@ impl Asked {
     /// The first refusal in the order of SetVariable's checks: `there` is the variable that is seen, `hidden` says that
     /// one is there that isn't seen, and `room` is the room that is left.
     pub fn refusal(self, there: Option<&Variable>, hidden: bool, room: u64) -> Option<VarRefusal>
-        ensures { result ≡ first_refusal (refusals self (option_copied there.entry) hidden room) }
+        ensures first { result ≡ first_refusal (refusals self (option_copied there.entry) hidden room) }
+        ensures known { IfSome result (λ refusal. refusal ≢ Memory) }
     {
         if self.is_bad_name() {
             return Some(VarRefusal::Invalid);

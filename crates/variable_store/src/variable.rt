@@ -1,9 +1,12 @@
 //! One variable.
 #![tactic(auto)]
 
-ghost use Rattle.std.specs.Prelude.{◌≡◌, ◌≤◌, ◌&&◌};
+ghost use Rattle.std.specs.Prelude.{◌≡◌, ◌≤◌, ◌&&◌, OnOk, OnErr};
+ghost use Rattle.uh_base.specs.Guid.{IsGuid};
 ghost use Rattle.variable_store.specs.Entries.{same_guid, is_named, is_seen, is_non_volatile, is_runtime, is_append, cost};
+ghost use Rattle.variable_store.specs.Sets.{written};
 
+use std::alloc::AllocError;
 use std::marker::Model;
 use uh_base::Guid;
 
@@ -57,6 +60,18 @@ fn same_guid(a: &Guid, b: &Guid) -> bool
     a.d1 == b.d1 && a.d2 == b.d2 && a.d3 == b.d3 && a.d4 == b.d4
 }
 
+/// The fields of a GUID fit their types.
+pub fn fits(guid: &Guid)
+    ensures { IsGuid guid.now }
+{
+    let Guid {
+        d1: _d1,
+        d2: _d2,
+        d3: _d3,
+        d4: _d4,
+    } = *guid;
+}
+
 impl Variable {
     /// It has this name of this vendor.
     pub fn is_named(&self, name: &[u16], vendor: &Guid) -> bool
@@ -77,6 +92,19 @@ impl Variable {
         ensures { result ≡ (is_seen runtime self.now && is_named name.now vendor.now self.now) }
     {
         self.is_seen(runtime) && self.is_named(name, vendor)
+    }
+
+    /// Gives it other bytes, or with append more bytes. Where memory is wanting it stays as it was.
+    pub fn write(&mut self, attributes: u32, bytes: &[u8]) -> Result<(), AllocError>
+        ensures ok { OnOk result (self.new ≡ written attributes bytes.now self.old) }
+        ensures err { OnErr result (self.new ≡ self.old) }
+    {
+        if is_append(attributes) {
+            self.payload.extend_from_slice(bytes)?;
+        } else {
+            self.payload = Vec::from_slice(*self.payload.allocator(), bytes)?;
+        }
+        Ok(())
     }
 
     /// What it takes of the room: 32 bytes, two for each unit of its name and for its end, and its bytes.

@@ -1,15 +1,17 @@
 //! The variables.
 #![tactic(auto)]
 
-ghost use Rattle.std.specs.Prelude.{◌≡◌, ◌<◌, ◌≤◌, ◌+◌, [], length, IfSome, IfNone, Some, None, slice_get};
+ghost use Rattle.std.specs.Prelude.{◌≡◌, ◌≢◌, ◌<◌, ◌≤◌, ◌+◌, ◌++◌, [], ◌∷◌, length, remove, IfSome, IfNone, OnOk, OnErr, Some, None, Ok, slice_get};
 ghost use Rattle.variable_store.specs.Entries.{room_of, place_of, next_of};
-ghost use Rattle.variable_store.specs.Sets.{refusal_of};
+ghost use Rattle.variable_store.specs.Sets.{refusal_of, new_entry, changed_at, written, set_of, Gives};
+ghost use Rattle.variable_store.specs.Valid.{AreVariables};
+ghost use Rattle.variable_store.specs.declared.refusal.VarRefusal.TheVariants.{Memory};
 
 use crate::asked::Asked;
 use crate::places;
 use crate::refusal::VarRefusal;
-use crate::variable::Variable;
-use std::alloc::Global;
+use crate::variable::{Variable, fits};
+use std::alloc::{AllocError, Global};
 use std::marker::Model;
 use uh_base::Guid;
 
@@ -46,6 +48,13 @@ impl Variables {
         }
     }
 
+    /// What is so of all variables.
+    pub fn whole(&self)
+        ensures { AreVariables self.now }
+    {
+        let _ = &self.used;
+    }
+
     /// The place of the variable with a name of a vendor. After the end of boot services, where `runtime` is true,
     /// variables without runtime access aren't seen. None exactly where no variable is seen.
     pub fn find(&self, name: &[u16], vendor: &Guid, runtime: bool) -> Option<usize>
@@ -75,7 +84,12 @@ impl Variables {
     /// is empty (UEFI 2.10, section 8.2, GetNextVariableName). `Invalid` exactly where the name isn't empty and no
     /// variable with it is seen.
     #[tactic(auto, unfolding(crate::specs::Entries::next_of))]
-    pub fn next_index(&self, name: &[u16], vendor: &Guid, runtime: bool) -> Result<Option<usize>, VarRefusal>
+    pub fn next_index(
+        &self,
+        name: &[u16],
+        vendor: &Guid,
+        runtime: bool,
+    ) -> Result<Option<usize>, VarRefusal>
         ensures { result ≡ next_of self.now name.now vendor.now runtime }
     {
         if name.is_empty() {
@@ -89,8 +103,16 @@ impl Variables {
 
     /// Why a set of so many bytes is refused, in the order of SetVariable's checks. None exactly where it isn't.
     #[tactic(auto, unfolding(crate::specs::Sets::refusal_of))]
-    pub fn refusal(&self, name: &[u16], vendor: &Guid, attributes: u32, size: u64, runtime: bool) -> Option<VarRefusal>
-        ensures { result ≡ refusal_of self.now name.now vendor.now attributes size runtime }
+    pub fn refusal(
+        &self,
+        name: &[u16],
+        vendor: &Guid,
+        attributes: u32,
+        size: u64,
+        runtime: bool,
+    ) -> Option<VarRefusal>
+        ensures first { result ≡ refusal_of self.now name.now vendor.now attributes size runtime }
+        ensures known { IfSome result (λ refusal. refusal ≢ Memory) }
     {
         let asked = Asked {
             units: name.len(),
@@ -103,5 +125,116 @@ impl Variables {
             None => None,
         };
         asked.refusal(there, self.find(name, vendor, false).is_some(), self.room())
+    }
+
+    /// Puts a new variable behind the others.
+    fn add(
+        &mut self,
+        name: &[u16],
+        vendor: &Guid,
+        attributes: u32,
+        bytes: &[u8],
+    ) -> Result<(), AllocError>
+        requires { AreVariables (self.old ++ new_entry name.now vendor.now attributes bytes.now ∷ []) }
+        ensures ok { OnOk result (self.new ≡ self.old ++ new_entry name.now vendor.now attributes bytes.now ∷ []) }
+        ensures err { OnErr result (self.new ≡ self.old) }
+    {
+        let alloc = *self.entries.allocator();
+        let variable = Variable {
+            vendor: *vendor,
+            name: Vec::from_slice(alloc, name)?,
+            attributes: attributes & 7,
+            payload: Vec::from_slice(alloc, bytes)?,
+        };
+        let cost = variable.cost();
+        self.entries.push(variable)?;
+        self.used += cost;
+        Ok(())
+    }
+
+    /// Gives a variable other bytes, or more.
+    fn change(&mut self, index: usize, attributes: u32, bytes: &[u8]) -> Result<(), AllocError>
+        requires inside { index < length self.old }
+        requires valid { AreVariables (changed_at (written attributes bytes.now) self.old index) }
+        ensures ok { OnOk result (self.new ≡ changed_at (written attributes bytes.now) self.old index) }
+        ensures err { OnErr result (self.new ≡ self.old) }
+    {
+        let variable = &mut self.entries[index];
+        let before = variable.cost();
+        variable.write(attributes, bytes)?;
+        let after = variable.cost();
+        self.used = self.used - before + after;
+        Ok(())
+    }
+
+    /// Takes a variable away.
+    fn remove(&mut self, index: usize)
+        requires { index < length self.old }
+        ensures { self.new ≡ remove self.old index }
+    {
+        let variable = self.entries.remove(index);
+        self.used -= variable.cost();
+    }
+
+    /// Makes a set that isn't refused.
+    fn accept(
+        &mut self,
+        name: &[u16],
+        vendor: &Guid,
+        attributes: u32,
+        bytes: &[u8],
+        runtime: bool,
+    ) -> Result<(), AllocError>
+        requires { refusal_of self.old name.now vendor.now attributes (length bytes.now) runtime ≡ None }
+        ensures ok { OnOk result (set_of self.old name.now vendor.now attributes bytes.now runtime ≡ Ok self.new) }
+        ensures err { OnErr result (self.new ≡ self.old) }
+    {
+        self.whole();
+        fits(vendor);
+        let asked = Asked {
+            units: name.len(),
+            attributes,
+            size: bytes.len() as u64,
+            runtime,
+        };
+        if asked.is_nothing() {
+            return Ok(());
+        }
+        if asked.is_removal() {
+            return match self.find(name, vendor, runtime) {
+                Some(index) => {
+                    self.remove(index);
+                    Ok(())
+                }
+                None => Ok(()),
+            };
+        }
+        match self.find(name, vendor, runtime) {
+            Some(index) => self.change(index, attributes, bytes),
+            None => self.add(name, vendor, attributes, bytes),
+        }
+    }
+
+    /// Sets a variable (UEFI 2.10, section 8.2, SetVariable): with append, bytes are put behind those that are there;
+    /// else a set of no bytes, or one without boot and runtime access, removes the variable; else its bytes are
+    /// replaced. A new variable stands last. `runtime` is true after the end of boot services. For the refusals and their
+    /// order see docs/variables.md; after each of them the variables are as before.
+    pub fn set(
+        &mut self,
+        name: &[u16],
+        vendor: &Guid,
+        attributes: u32,
+        bytes: &[u8],
+        runtime: bool,
+    ) -> Result<(), VarRefusal>
+        ensures { Gives result (set_of self.old name.now vendor.now attributes bytes.now runtime) self.old self.new }
+    {
+        match self.refusal(name, vendor, attributes, bytes.len() as u64, runtime) {
+            Some(refusal) => Err(refusal),
+            None => match self.accept(name, vendor, attributes, bytes, runtime) {
+                Ok(()) => Ok(()),
+                Err(_) => Err(VarRefusal::Memory),
+            },
+        }
     }
 }

@@ -1,4 +1,3 @@
-use Rattle.std.proofs.Common.{arith}
 use Rattle.variable_store.specs.Entries.{is_seen}
 use Rattle.variable_store.proofs.PlaceLemmas.{found, missed, nowhere}
 use Rattle.variable_store.proofs.places.first_seen.Goals as goal
