@@ -60,3 +60,8 @@ pub changed_valid : (entries now : List Entry) (attributes : ℕ) (bytes : List 
 changed_valid entries now attributes bytes i used before after e y same h at w valid is costs now' =
     let there = set_is (written attributes bytes) entries i e y h at w in
     (rw (there, same) valid, used_changed entries i used before after e y is h at costs now')
+
+-- each variable costs something
+pub few : (entries : List Entry) → length entries ≤ total entries
+few [] = omega arith
+few (e ∷ es) = omega (arith, sum_by-cons cost e es, few es)

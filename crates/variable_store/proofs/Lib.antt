@@ -2,3 +2,5 @@ pub mod PlaceLemmas
 pub mod NameLemmas
 pub mod EditLemmas
 pub mod SetLemmas
+pub mod StoreLemmas
+pub mod LoadLemmas

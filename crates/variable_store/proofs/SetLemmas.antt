@@ -70,7 +70,7 @@ writes attributes size nothing removal = rw (nothing, removal) refl
 within : (asked : Asked) (there : Option Entry) (room : ℕ) → is_write asked.attributes asked.size ≡ true → is_past asked there room ≡ false → need asked there ≤ room
 within asked there room write h = let test : (true && nat_lt room (need asked there)) ≡ false = rw write at h in grind (arith, nat_tests)
 
-each_more : (entries : List Entry) (f : Entry) → AreEntries entries → IsEntry f → AreEntries (entries ++ f ∷ [])
+pub each_more : (entries : List Entry) (f : Entry) → AreEntries entries → IsEntry f → AreEntries (entries ++ f ∷ [])
 each_more [] f all h = (h, tt)
 each_more (e ∷ es) f all h = (all.0, each_more es f all.1 h)
 
@@ -88,7 +88,7 @@ total_changed change (x ∷ xs) zero e h =
     rw (← same) (omega (arith, sum_by-cons cost (change x) xs, sum_by-cons cost x xs))
 total_changed change (x ∷ xs) (suc i) e h = omega (arith, sum_by-cons cost x (changed_at change xs i), sum_by-cons cost x xs, total_changed change xs i e h)
 
-room_is : (entries : List Entry) → room_of entries ≡ 65_536 - total entries
+pub room_is : (entries : List Entry) → room_of entries ≡ 65_536 - total entries
 unfolding room_of
 room_is entries = refl
 
@@ -112,7 +112,7 @@ not_hidden asked hidden r w h =
     let made : (true && true && cannot_be_made asked hidden) ≡ false = rw (r, w) at h in
     (or_false hidden _ (or_false _ _ made).0).0
 
-is_none : (o : Option ℕ) → is_some o ≡ false → o ≡ None
+pub is_none : (o : Option ℕ) → is_some o ≡ false → o ≡ None
 is_none None h = refl
 is_none (Some k) h = absurd (cc)
 

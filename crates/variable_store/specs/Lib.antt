@@ -1,3 +1,5 @@
 pub mod Entries
 pub mod Sets
 pub mod Valid
+pub mod Store
+pub mod Reading

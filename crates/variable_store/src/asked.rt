@@ -18,13 +18,14 @@ pub struct Asked {
     pub runtime: bool,
 }
 
-impl Asked {
-    fn is_bad_name(self) -> bool
-        ensures { result ≡ is_bad_name self.units }
-    {
-        self.units == 0 || self.units > 1024
-    }
+/// No name, or one above 1,024 units.
+pub fn is_bad_name(units: usize) -> bool
+    ensures { result ≡ is_bad_name units }
+{
+    units == 0 || units > 1024
+}
 
+impl Asked {
     fn has_other_bits(self) -> bool
         ensures { result ≡ has_other_bits self.attributes }
     {
@@ -128,7 +129,7 @@ impl Asked {
         ensures first { result ≡ first_refusal (refusals self (option_copied there.entry) hidden room) }
         ensures known { IfSome result (λ refusal. refusal ≢ Memory) }
     {
-        if self.is_bad_name() {
+        if is_bad_name(self.units) {
             return Some(VarRefusal::Invalid);
         }
         if self.has_other_bits() {

@@ -2,13 +2,18 @@
 #![tactic(auto)]
 
 mod asked;
+mod fault;
+mod loading;
 mod places;
+mod reading;
 mod refusal;
+mod saving;
 #[cfg(test)]
 mod tests;
 mod variable;
 mod variables;
 
+pub use fault::StoreFault;
 pub use refusal::VarRefusal;
 pub use variable::Variable;
 pub use variables::Variables;

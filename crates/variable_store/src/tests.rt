@@ -1,6 +1,7 @@
 //! Variables worked by hand.
 #![tactic(auto)]
 
+use crate::fault::StoreFault;
 use crate::refusal::VarRefusal;
 use crate::variables::Variables;
 use std::test::Fail;
@@ -172,5 +173,116 @@ fn the_room(rt: HostRuntime) -> Result<(), Fail> {
         variables.refusal(B, &GLOBAL, 7, u64::MAX, false),
         Some(VarRefusal::Full)
     );
+    Ok(())
+}
+
+/// A file of two variables: `A` with attributes 7 and bytes 1 and 2, and `B` with attributes 3 and byte 3.
+const STORE: [u8; 71] = [
+    0x55, 0x56, 0x53, 0x31, 2, 0, 0, 0, // UVS1, two
+    0x61, 0xdf, 0xe4, 0x8b, 0xca, 0x93, 0xd2, 0x11, 0xaa, 0x0d, 0x00, 0xe0, 0x98, 0x03, 0x2b, 0x8c, // at 8
+    7, 0, 0, 0, 1, 0, 0, 0, 2, 0, 0, 0, // at 24, 28 and 32
+    0x41, 0, 1, 2, // at 36 and 38
+    0x61, 0xdf, 0xe4, 0x8b, 0xca, 0x93, 0xd2, 0x11, 0xaa, 0x0d, 0x00, 0xe0, 0x98, 0x03, 0x2b, 0x8c, // at 40
+    3, 0, 0, 0, 1, 0, 0, 0, 1, 0, 0, 0, // at 56, 60 and 64
+    0x42, 0, 3, // at 68 and 70
+];
+
+/// The fault of a file, none where it is a store.
+fn fault_of(rt: &HostRuntime, bytes: &[u8]) -> Option<StoreFault> {
+    Variables::load(rt.alloc(), bytes).err()
+}
+
+#[test]
+fn a_store_of_one_variable(rt: HostRuntime) -> Result<(), Fail> {
+    let mut variables = Variables::new(rt.alloc());
+    assert_eq!(rt; variables.set(A, &GLOBAL, 7, &[1, 2], false), Ok(()));
+    let mut wanted = [0; 40];
+    wanted.copy_from_slice(&STORE[..40]);
+    wanted[4] = 1;
+    let bytes = variables.save()?;
+    assert_eq!(rt; bytes.as_slice(), &wanted[..]);
+    let loaded = Variables::load(rt.alloc(), &bytes).expect(&rt, "a store");
+    assert_eq!(rt; loaded.find(A, &GLOBAL, false), Some(0));
+    assert_eq!(rt; payload(&loaded, 0), &[1, 2][..]);
+    assert_eq!(rt; loaded.room(), 65_498);
+    assert_eq!(rt; loaded.at(1).is_none(), true);
+    assert_eq!(rt; fault_of(&rt, &wanted[..39]), Some(StoreFault::At(38)));
+    assert_eq!(rt; fault_of(&rt, b"UVS2"), Some(StoreFault::At(0)));
+    Ok(())
+}
+
+#[test]
+fn variables_that_outlive_a_run(rt: HostRuntime) -> Result<(), Fail> {
+    let mut variables = Variables::new(rt.alloc());
+    assert_eq!(rt; variables.set(A, &OTHER, 6, &[9], false), Ok(()));
+    assert_eq!(rt; variables.set(A, &GLOBAL, 7, &[1, 2], false), Ok(()));
+    assert_eq!(rt; variables.set(B, &OTHER, 2, &[9], false), Ok(()));
+    assert_eq!(rt; variables.set(B, &GLOBAL, 3, &[3], false), Ok(()));
+    assert_eq!(rt; variables.save()?.as_slice(), &STORE[..]);
+    let loaded = Variables::load(rt.alloc(), &STORE).expect(&rt, "a store");
+    assert_eq!(rt; loaded.find(A, &GLOBAL, true), Some(0));
+    assert_eq!(rt; loaded.find(B, &GLOBAL, true), None);
+    assert_eq!(rt; loaded.find(B, &GLOBAL, false), Some(1));
+    assert_eq!(rt; loaded.save()?.as_slice(), &STORE[..]);
+    Ok(())
+}
+
+#[test]
+fn stores_that_are_cut(rt: HostRuntime) -> Result<(), Fail> {
+    // where each field begins
+    let fields = [0, 4, 8, 24, 28, 32, 36, 38, 40, 56, 60, 64, 68, 70];
+    for length in 0..71 {
+        let first = fields.iter().rev().find(|field| **field <= length).copied();
+        let cut = STORE.get(..length).unwrap_or(&[]);
+        assert_eq!(rt; fault_of(&rt, cut), first.map(StoreFault::At));
+    }
+    assert_eq!(rt; fault_of(&rt, &STORE), None);
+    Ok(())
+}
+
+#[test]
+fn stores_out_of_form(rt: HostRuntime) -> Result<(), Fail> {
+    // two bytes, each by its offset, and the offset of the fault
+    let rows = [
+        ((0, 0x54), (0, 0x54), 0),
+        ((3, 0x32), (3, 0x32), 0),
+        ((4, 3), (4, 3), 71),
+        ((7, 1), (7, 1), 71),
+        ((4, 1), (4, 1), 40),
+        ((4, 0), (4, 0), 8),
+        ((24, 6), (24, 6), 24),
+        ((24, 5), (24, 5), 24),
+        ((24, 0x47), (24, 0x47), 24),
+        ((27, 0x80), (27, 0x80), 24),
+        ((28, 0), (28, 0), 28),
+        ((29, 4), (28, 1), 28),
+        ((29, 4), (28, 0), 36),
+        ((32, 0), (32, 0), 32),
+        ((34, 1), (34, 1), 32),
+        ((35, 0xff), (35, 0xff), 32),
+        ((56, 0), (56, 0), 56),
+        ((64, 0xb7), (65, 0xff), 64),
+        ((64, 0xb6), (65, 0xff), 70),
+        ((68, 0x41), (68, 0x41), 68),
+    ];
+    for ((first, byte), (second, other), fault) in rows {
+        let mut bytes = STORE;
+        if let Some(place) = bytes.get_mut(first) {
+            *place = byte;
+        }
+        if let Some(place) = bytes.get_mut(second) {
+            *place = other;
+        }
+        assert_eq!(rt; fault_of(&rt, &bytes), Some(StoreFault::At(fault)));
+    }
+    // the same name of another vendor, and attributes 1
+    for (at, byte) in [(40, 0x62), (56, 1)] {
+        let mut bytes = STORE;
+        bytes[68] = if at == 40 { 0x41 } else { 0x42 };
+        if let Some(place) = bytes.get_mut(at) {
+            *place = byte;
+        }
+        assert_eq!(rt; fault_of(&rt, &bytes), None);
+    }
     Ok(())
 }

@@ -1,10 +1,11 @@
 //! One variable.
 #![tactic(auto)]
 
-ghost use Rattle.std.specs.Prelude.{◌≡◌, ◌≤◌, ◌&&◌, OnOk, OnErr};
+ghost use Rattle.std.specs.Prelude.{◌≡◌, ◌≤◌, ◌&&◌, ◌^◌, OnOk, OnErr};
 ghost use Rattle.uh_base.specs.Guid.{IsGuid};
 ghost use Rattle.variable_store.specs.Entries.{same_guid, is_named, is_seen, is_non_volatile, is_runtime, is_append, cost};
 ghost use Rattle.variable_store.specs.Sets.{written};
+ghost use Rattle.variable_store.specs.Valid.{AreBelow};
 
 use std::alloc::AllocError;
 use std::marker::Model;
@@ -70,6 +71,20 @@ pub fn fits(guid: &Guid)
         d3: _d3,
         d4: _d4,
     } = *guid;
+}
+
+/// Units fit their type.
+pub fn units_fit(units: &[u16])
+    ensures { AreBelow (2 ^ 16) units.now }
+{
+    let _ = units;
+}
+
+/// Bytes fit their type.
+pub fn bytes_fit(bytes: &[u8])
+    ensures { AreBelow (2 ^ 8) bytes.now }
+{
+    let _ = bytes;
 }
 
 impl Variable {

@@ -1,16 +1,19 @@
 //! The variables.
 #![tactic(auto)]
 
-ghost use Rattle.std.specs.Prelude.{◌≡◌, ◌≢◌, ◌<◌, ◌≤◌, ◌+◌, ◌++◌, [], ◌∷◌, length, remove, IfSome, IfNone, OnOk, OnErr, Some, None, Ok, slice_get};
+ghost use Rattle.std.specs.Prelude.{◌≡◌, ◌≢◌, ◌<◌, ◌≤◌, ◌+◌, ◌++◌, [], ◌∷◌, length, remove, IfSome, IfNone, IfOk, OnOk, OnErr, Some, None, Ok, slice_get};
 ghost use Rattle.variable_store.specs.Entries.{room_of, place_of, next_of};
 ghost use Rattle.variable_store.specs.Sets.{refusal_of, new_entry, changed_at, written, set_of, Gives};
 ghost use Rattle.variable_store.specs.Valid.{AreVariables};
+ghost use Rattle.variable_store.specs.Store.{store_of};
+ghost use Rattle.variable_store.specs.Reading.{store_in, Reads};
 ghost use Rattle.variable_store.specs.declared.refusal.VarRefusal.TheVariants.{Memory};
 
 use crate::asked::Asked;
-use crate::places;
+use crate::fault::StoreFault;
 use crate::refusal::VarRefusal;
 use crate::variable::{Variable, fits};
+use crate::{loading, places, saving};
 use std::alloc::{AllocError, Global};
 use std::marker::Model;
 use uh_base::Guid;
@@ -127,6 +130,18 @@ impl Variables {
         asked.refusal(there, self.find(name, vendor, false).is_some(), self.room())
     }
 
+    /// Puts a variable behind the others.
+    pub(crate) fn push(&mut self, variable: Variable) -> Result<(), AllocError>
+        requires { AreVariables (self.old ++ variable ∷ []) }
+        ensures ok { OnOk result (self.new ≡ self.old ++ variable ∷ []) }
+        ensures err { OnErr result (self.new ≡ self.old) }
+    {
+        let cost = variable.cost();
+        self.entries.push(variable)?;
+        self.used += cost;
+        Ok(())
+    }
+
     /// Puts a new variable behind the others.
     fn add(
         &mut self,
@@ -146,10 +161,7 @@ impl Variables {
             attributes: attributes & 7,
             payload: Vec::from_slice(alloc, bytes)?,
         };
-        let cost = variable.cost();
-        self.entries.push(variable)?;
-        self.used += cost;
-        Ok(())
+        self.push(variable)
     }
 
     /// Gives a variable other bytes, or more.
@@ -236,5 +248,25 @@ impl Variables {
                 Err(_) => Err(VarRefusal::Memory),
             },
         }
+    }
+
+    /// The store file of the variables that outlive a run: `UVS1`, how many there are as four bytes, and for each its
+    /// vendor's 16 bytes, its attributes, the units of its name and the bytes of its payload as four bytes each, the
+    /// name's units and the payload. Numbers have their least byte first.
+    pub fn save(&self) -> Result<Vec<u8>, AllocError>
+        ensures { IfOk result (λ bytes. bytes.items ≡ store_of self.now) }
+    {
+        saving::store(*self.entries.allocator(), &self.entries)
+    }
+
+    /// The variables of a store file. A fault is the first field, by its offset, that is cut, out of its limits, repeated
+    /// or behind the last variable: the four letters, the count, and of each variable the vendor, the attributes
+    /// (non-volatile, and runtime access only with boot access), the units of the name (1 to 1,024), the bytes of the
+    /// payload (some, and the variable fits in the room that is left), the name (none before is of the same vendor and
+    /// name), and the payload.
+    pub fn load(alloc: Global, bytes: &[u8]) -> Result<Variables, StoreFault>
+        ensures { Reads (λ variables. variables) result (store_in bytes.now) }
+    {
+        loading::load(alloc, bytes)
     }
 }
