@@ -4,3 +4,4 @@ pub mod EditLemmas
 pub mod SetLemmas
 pub mod StoreLemmas
 pub mod LoadLemmas
+pub mod SavedLemmas

@@ -3,3 +3,4 @@ pub mod Sets
 pub mod Valid
 pub mod Store
 pub mod Reading
+pub mod Laws

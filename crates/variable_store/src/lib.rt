@@ -3,6 +3,7 @@
 
 mod asked;
 mod fault;
+mod laws;
 mod loading;
 mod places;
 mod reading;
@@ -14,6 +15,7 @@ mod variable;
 mod variables;
 
 pub use fault::StoreFault;
+pub use laws::saved_is_loaded;
 pub use refusal::VarRefusal;
 pub use variable::Variable;
 pub use variables::Variables;
