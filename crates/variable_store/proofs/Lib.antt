@@ -5,3 +5,4 @@ pub mod SetLemmas
 pub mod StoreLemmas
 pub mod LoadLemmas
 pub mod SavedLemmas
+pub mod LoadedLemmas

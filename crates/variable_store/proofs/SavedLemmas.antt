@@ -65,7 +65,7 @@ unfolding entry
 entry_reads size before h a b c d n p first name new payload = rw (first, name, new, payload) refl
 
 -- the bytes of a variable with others behind them
-regroup : (a b c d n p rest : List ℕ) → (a ++ (b ++ (c ++ (d ++ (n ++ p))))) ++ rest ≡ a ++ (b ++ (c ++ (d ++ (n ++ (p ++ rest)))))
+pub regroup : (a b c d n p rest : List ℕ) → (a ++ (b ++ (c ++ (d ++ (n ++ p))))) ++ rest ≡ a ++ (b ++ (c ++ (d ++ (n ++ (p ++ rest)))))
 regroup a b c d n p rest = simp append_assoc
 
 -- none before has the name
@@ -84,7 +84,7 @@ each_there : (before : List Entry) (e : Entry) (behind : List Entry) → AreEntr
 each_there [] e behind all = all.0
 each_there (b ∷ bs) e behind all = each_there bs e behind all.1
 
-abbrev AllKept : List Entry → Type 0
+abbrev pub AllKept : List Entry → Type 0
 AllKept [] = Unit {0}
 AllKept (e ∷ es) = (is_non_volatile e.attributes ≡ true) × AllKept es
 

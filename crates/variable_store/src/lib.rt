@@ -15,7 +15,7 @@ mod variable;
 mod variables;
 
 pub use fault::StoreFault;
-pub use laws::saved_is_loaded;
+pub use laws::{loaded_is_saved, saved_is_loaded};
 pub use refusal::VarRefusal;
 pub use variable::Variable;
 pub use variables::Variables;

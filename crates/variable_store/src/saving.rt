@@ -79,8 +79,8 @@ fn count_kept(entries: &[Variable]) -> usize
     ensures bound { result ≤ length entries.now }
 {
     let mut count = 0;
-    for variable in entries {
-        if is_non_volatile(variable.attributes) {
+    for entry in entries {
+        if is_non_volatile(entry.attributes) {
             count += 1;
         }
     }
