@@ -17,7 +17,7 @@ use Rattle.time_service.proofs.NumberLemmas.{end_is}
 use Rattle.time_service.proofs.TimeLemmas.{IsTime, parts_of, civil_of, zone_fits}
 
 -- a time by its fields
-same_time : (time : EfiTime) (year month day hour minute second nanosecond : ℕ) (zone : ℤ) (daylight : ℕ)
+pub same_time : (time : EfiTime) (year month day hour minute second nanosecond : ℕ) (zone : ℤ) (daylight : ℕ)
     → year ≡ time.year → month ≡ time.month → day ≡ time.day → hour ≡ time.hour → minute ≡ time.minute → second ≡ time.second → nanosecond ≡ time.nanosecond → zone ≡ time.zone → daylight ≡ time.daylight
     → record { year = year; month = month; day = day; hour = hour; minute = minute; second = second; nanosecond = nanosecond; zone = zone; daylight = daylight } ≡ time
 same_time time year month day hour minute second nanosecond zone daylight a b c d e f g h i = rw (a, b, c, d, e, f, g, h, i) refl

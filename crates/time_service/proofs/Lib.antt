@@ -4,3 +4,4 @@ pub mod CodeLemmas
 pub mod LawLemmas
 pub mod TextLemmas
 pub mod NumberLemmas
+pub mod ReadLemmas

@@ -2,6 +2,7 @@
 use Rattle.std.proofs.Common.{◌≡◌, ℕ, zero, suc, ◌+◌, ◌<◌, ◌≤◌, ◌≢◌, List, [], ◌∷◌, length, drop, get_or, refl, sym, ap, ◌∙◌, add-one, arith, Bool, true, false}
 use Rattle.std.specs.Prelude.{◌&&◌}
 use Rattle.time_service.specs.Texts.{fits_character, fits_form}
+use Rattle.time_service.proofs.TimeLemmas.{and_true}
 
 pub other_length : (forms text : List ℕ) → length text ≢ length forms → false ≡ fits_form forms text
 unfolding fits_form
@@ -46,3 +47,10 @@ module _ (forms text : List ℕ) (i : ℕ) (same : length text ≡ length forms)
 
   pub all_fitted : length text ≤ i → true ≡ fits_form forms text
   all_fitted end = sym (none_left forms text i (omega arith) same) ∙ so_far
+
+pub fits_length : (forms text : List ℕ) → fits_form forms text ≡ true → length text ≡ length forms
+unfolding fits_form
+fits_length [] [] h = refl
+fits_length [] (c ∷ cs) h = absurd (cc)
+fits_length (f ∷ fs) [] h = absurd (cc)
+fits_length (f ∷ fs) (c ∷ cs) h = let rest = fits_length fs cs (and_true (fits_character f c) (fits_form fs cs) h).1 in omega arith

@@ -1,8 +1,9 @@
 -- What the definitions come to.
-use Rattle.std.specs.Prelude.{ℕ, ◌≡◌, ◌<◌, ◌≤◌, ◌+◌, ◌/◌, ◌↔◌, true, Some, None}
+use Rattle.std.specs.Prelude.{ℕ, ◌≡◌, ◌<◌, ◌≤◌, ◌+◌, ◌/◌, ◌↔◌, true, pos, List, Some, None}
 use Rattle.time_service.specs.declared.efi_time.EfiTime.{EfiTime}
 use Rattle.time_service.specs.Times.{bytes_of, time_of, is_date, is_valid}
 use Rattle.time_service.specs.Days.{Date, day_number, date_of}
+use Rattle.time_service.specs.Texts.{clock_of, text_of}
 use Rattle.time_service.specs.Clocks.{ClockState, nanoseconds_a_day, set_to, since_midnight, moment_of}
 
 -- A valid time is read from its own bytes.
@@ -28,3 +29,22 @@ ShowsWhatIsSet = (now : ℕ) (time : EfiTime) → is_valid time ≡ true → mom
 -- It shows nothing exactly after 31 December 9999.
 abbrev pub EndsAfter9999 : Type 0
 EndsAfter9999 = (clock : ClockState) (now : ℕ) → moment_of clock now ≡ None ↔ 2_958_463 < clock.day + since_midnight clock now / nanoseconds_a_day
+
+-- a valid local time to the second
+pub record IsLocal (time : EfiTime) : Type 0 where
+  pub valid : is_valid time ≡ true
+  pub whole : time.nanosecond ≡ 0
+  pub local : time.zone ≡ pos 2047
+  pub plain : time.daylight ≡ 0
+
+-- a clock that the text of such a time sets
+pub record SaysTime (text : List ℕ) (clock : ClockState) : Type 0 where
+  pub time : EfiTime
+  pub fits : IsLocal time
+  pub said : text ≡ text_of time
+  pub set : clock ≡ set_to 0 time
+
+-- The text of such a time sets the clock to it, and no other text sets a clock.
+pub record TextsSet : Type 0 where
+  pub written : (time : EfiTime) → IsLocal time → clock_of (text_of time) ≡ Some (set_to 0 time)
+  pub only : (text : List ℕ) (clock : ClockState) → clock_of text ≡ Some clock → SaysTime text clock

@@ -1,5 +1,5 @@
 -- Texts of a local date and time of day, as `2024-01-01T00:00:00` (ISO 8601, the extended form to the second).
-use Rattle.std.specs.Prelude.{ℕ, ◌+◌, ◌*◌, ◌%◌, ◌==◌, ◌&&◌, nat_le, pos, Bool, true, false, List, [], ◌∷◌, codes, slice_index, Option, Some, None, if◌then◌else◌}
+use Rattle.std.specs.Prelude.{ℕ, ◌+◌, ◌*◌, ◌/◌, ◌%◌, ◌==◌, ◌&&◌, nat_le, pos, Bool, true, false, List, [], ◌∷◌, codes, slice_index, Option, Some, None, if◌then◌else◌}
 use Rattle.time_service.specs.declared.efi_time.EfiTime.{EfiTime}
 use Rattle.time_service.specs.Times.{is_valid}
 use Rattle.time_service.specs.Clocks.{ClockState, set_to}
@@ -37,3 +37,14 @@ time_in text = record {
 unfoldable pub clock_of : List ℕ → Option ClockState
 clock_of text =
     if fits_form (codes "0000-00-00T00:00:00") text && is_valid (time_in text) then Some (set_to 0 (time_in text)) else None
+
+-- the character of a number's last digit, and its last two
+abbrev pub digit : ℕ → ℕ
+digit n = 48 + n % 10
+
+abbrev pub two : ℕ → List ℕ → List ℕ
+two n rest = digit (n / 10) ∷ digit n ∷ rest
+
+-- the text of a time
+unfoldable pub text_of : EfiTime → List ℕ
+text_of time = two (time.year / 100) (two time.year (45 ∷ two time.month (45 ∷ two time.day (84 ∷ two time.hour (58 ∷ two time.minute (58 ∷ two time.second []))))))

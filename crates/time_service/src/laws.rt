@@ -1,7 +1,7 @@
 //! What the definitions come to. Each law is the contract of a function that does nothing.
 #![tactic(auto)]
 
-ghost use Rattle.time_service.specs.Laws.{ReadsBack, DatesAreNumbered, ShowsWhatIsSet, EndsAfter9999};
+ghost use Rattle.time_service.specs.Laws.{ReadsBack, TextsSet, DatesAreNumbered, ShowsWhatIsSet, EndsAfter9999};
 
 /// A valid time is read from its own bytes.
 pub fn times_read_back()
@@ -21,4 +21,9 @@ pub fn clock_shows_what_is_set()
 /// A clock shows nothing exactly after 31 December 9999.
 pub fn clock_ends_after_9999()
     ensures { EndsAfter9999 }
+{}
+
+/// The text of a valid local time to the second sets the clock to it, and no other text sets a clock.
+pub fn texts_set_clocks()
+    ensures { TextsSet }
 {}

@@ -12,5 +12,6 @@ mod text;
 pub use clock::Clock;
 pub use efi_time::EfiTime;
 pub use laws::{
-    clock_ends_after_9999, clock_shows_what_is_set, dates_are_numbered, times_read_back,
+    clock_ends_after_9999, clock_shows_what_is_set, dates_are_numbered, texts_set_clocks,
+    times_read_back,
 };

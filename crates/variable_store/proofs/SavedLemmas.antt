@@ -1,8 +1,8 @@
 -- What is loaded of what was saved.
-use Rattle.std.proofs.Common.{◌≡◌, ℕ, zero, suc, ◌+◌, ◌-◌, ◌*◌, ◌<◌, ◌≤◌, ◌^◌, List, [], ◌∷◌, ◌++◌, length, length-append, take, drop, refl, sym, ap, ◌∙◌, subst, append_assoc, append-nil, arith, Bool, true, false}
-use Rattle.std.specs.Prelude.{◌==◌, ◌||◌, ◌&&◌, not, nat_lt, nat_le, codes, if◌then◌else◌, is_some, sum_by, Option, Some, None, Result, Ok, Err}
-use Rattle.std.specs.Int.{w16, w32, to_le_bytes, from_le_bytes}
-use Rattle.std.specs.List.{filter, flat_map}
+use Rattle.std.proofs.Common.{◌≡◌, ℕ, ◌*◌, ◌<◌, ◌≤◌, ◌^◌, List, [], ◌∷◌, ◌++◌, length, length-append, take, drop, refl, sym, ap, ◌∙◌, append_assoc, append-nil, arith, Bool, true, false}
+use Rattle.std.specs.Prelude.{◌==◌, not, nat_lt, nat_le, codes, if◌then◌else◌, is_some, None, Result, Ok}
+use Rattle.std.specs.Int.{w32, to_le_bytes, from_le_bytes}
+use Rattle.std.specs.List.{flat_map}
 use Rattle.std.specs.Str.{bytes_eq}
 use Rattle.std.proofs.lemmas.Bool.Decides.{nat_tests}
 use Rattle.std.proofs.Math.Seq.{take-append_seam, drop-append_seam}
@@ -15,7 +15,7 @@ use Rattle.variable_store.specs.Entries.{Entry, cost, cost_of, total, room_of, i
 use Rattle.variable_store.specs.Sets.{is_bad_name, lacks_boot_access}
 use Rattle.variable_store.specs.Valid.{AreBelow, IsEntry, AreEntries, NoneNamed, AreApart, AreVariables}
 use Rattle.variable_store.specs.Store.{kept, unit_bytes, entry_bytes, store_of}
-use Rattle.variable_store.specs.Reading.{field, number, guid, guid_in, units_in, fits_attributes, fits_size, head, entry, entries, store_in, ◌>>=◌}
+use Rattle.variable_store.specs.Reading.{field, number, guid, units_in, fits_attributes, fits_size, head, entry, entries, store_in}
 use Rattle.variable_store.proofs.NameLemmas.{and_both, named_turned}
 use Rattle.variable_store.proofs.SetLemmas.{room_is}
 use Rattle.variable_store.proofs.EditLemmas.{few}

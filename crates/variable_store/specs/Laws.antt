@@ -1,8 +1,6 @@
 -- What the definitions come to.
-use Rattle.std.specs.Prelude.{ℕ, ◌≡◌, ◌^◌, Bool, List, [], length, Ok}
-use Rattle.uh_base.specs.declared.guid.Guid.{Guid}
+use Rattle.std.specs.Prelude.{ℕ, ◌≡◌, ◌^◌, List, Ok}
 use Rattle.variable_store.specs.Entries.{Entry}
-use Rattle.variable_store.specs.Sets.{set_of}
 use Rattle.variable_store.specs.Valid.{AreBelow, AreVariables}
 use Rattle.variable_store.specs.Store.{kept, store_of}
 use Rattle.variable_store.specs.Reading.{store_in}
