@@ -1,0 +1,80 @@
+-- What the calls of the handle database answer, and the database behind them (UEFI 2.10, section 7.3).
+use Rattle.std.specs.Prelude.{ℕ, ◌≡◌, ◌+◌, ◌-◌, ◌^◌, ◌==◌, ◌&&◌, ◌||◌, Bool, List, [], ◌∷◌, ◌++◌, map, length, nat_le, Option, Some, None, Result, Ok, Err, if◌then◌else◌}
+use Rattle.std.specs.List.{filter, list_any}
+use Rattle.uh_base.specs.declared.guid.Guid.{Guid}
+use Rattle.handle_db.specs.declared.refusal.HandleRefusal.{HandleRefusal}
+use Rattle.handle_db.specs.declared.refusal.HandleRefusal.TheVariants.{Invalid, NotFound, Full, Memory}
+use Rattle.handle_db.specs.Database.{Pair, Handle, Database, shown, has_guid, handle_in, with_pairs, without, left_with, fresh, supports}
+
+-- a handle, and the database behind
+pub record Done : Type 0 where
+  pub handle : ℕ
+  pub database : Database
+
+-- no more handles: 1,024 are live, or 2^60 - 1 were made
+abbrev pub is_full : Database → Bool
+is_full d = nat_le 1024 (length d.live) || nat_le (2 ^ 60 - 1) d.made
+
+-- A new handle stands last.
+abbrev pub with_handle : Database → Guid → ℕ → Database
+with_handle d guid interface = record { live = d.live ++ record { number = shown (d.made + 1); pairs = fresh guid interface ∷ [] } ∷ []; made = d.made + 1 }
+
+abbrev pub installed_new : Database → Guid → ℕ → Result Done HandleRefusal
+installed_new d guid interface = if is_full d then Err Full else Ok (record { handle = shown (d.made + 1); database = with_handle d guid interface })
+
+abbrev pub installed_on : Database → ℕ → Guid → ℕ → Option Handle → Result Done HandleRefusal
+installed_on d number guid interface None = Err Invalid
+installed_on d number guid interface (Some handle) =
+    if list_any (has_guid guid) handle.pairs then Err Invalid
+    else Ok (record { handle = number; database = with_pairs d number (handle.pairs ++ fresh guid interface ∷ []) })
+
+-- a protocol interface is installed on a handle, or on a new one
+unfoldable pub installation : Database → Option ℕ → Guid → ℕ → Result Done HandleRefusal
+installation d None guid interface = installed_new d guid interface
+installation d (Some number) guid interface = installed_on d number guid interface (handle_in d number)
+
+-- a handle has this interface by this GUID
+abbrev pub has_pair : Guid → ℕ → Handle → Bool
+has_pair guid interface handle = list_any (λ (p : Pair). has_guid guid p && p.interface == interface) handle.pairs
+
+abbrev pub removed_from : Database → ℕ → Guid → ℕ → Option Handle → Result Database HandleRefusal
+removed_from d number guid interface None = Err Invalid
+removed_from d number guid interface (Some handle) = if has_pair guid interface handle then Ok (left_with d number (without guid handle.pairs)) else Err NotFound
+
+-- an interface is taken from a handle, with its opens
+unfoldable pub removal : Database → ℕ → Guid → ℕ → Result Database HandleRefusal
+removal d number guid interface = removed_from d number guid interface (handle_in d number)
+
+abbrev pub replaced_on : Database → ℕ → Guid → ℕ → ℕ → Option Handle → Result Database HandleRefusal
+replaced_on d number guid old new None = Err Invalid
+replaced_on d number guid old new (Some handle) = if has_pair guid old handle then Ok (with_pairs d number (without guid handle.pairs ++ fresh guid new ∷ [])) else Err NotFound
+
+-- an interface is taken from a handle, with its opens, and another stands last in its place
+unfoldable pub replacement : Database → ℕ → Guid → ℕ → ℕ → Result Database HandleRefusal
+replacement d number guid old new = replaced_on d number guid old new (handle_in d number)
+
+-- the live handles that have a protocol, or all, in order of making
+unfoldable pub handles_with : Database → Option Guid → List ℕ
+handles_with d guid = map (λ (h : Handle). h.number) (filter (supports guid) d.live)
+
+abbrev pub guids_on : Option Handle → List Guid
+guids_on None = []
+guids_on (Some handle) = map (λ (p : Pair). p.guid) handle.pairs
+
+-- the GUIDs of the handle's protocols in order
+unfoldable pub guids_in : Database → ℕ → List Guid
+guids_in d number = guids_on (handle_in d number)
+
+-- An install that answers so leads from one database to another. Want of memory may come at any call that takes some;
+-- then, as after each refusal, the database is as before.
+abbrev pub InstallGives : Result ℕ HandleRefusal → Result Done HandleRefusal → Database → Database → Type 0
+InstallGives (Ok handle) wanted old new = wanted ≡ Ok (record { handle = handle; database = new })
+InstallGives (Err Memory) wanted old new = new ≡ old
+InstallGives (Err Invalid) wanted old new = (wanted ≡ Err Invalid) × (new ≡ old)
+InstallGives (Err NotFound) wanted old new = (wanted ≡ Err NotFound) × (new ≡ old)
+InstallGives (Err Full) wanted old new = (wanted ≡ Err Full) × (new ≡ old)
+
+-- A change that takes no memory leads so from one database to another.
+abbrev pub ChangeGives : Result (Unit {0}) HandleRefusal → Result Database HandleRefusal → Database → Database → Type 0
+ChangeGives (Ok done) wanted old new = wanted ≡ Ok new
+ChangeGives (Err refusal) wanted old new = (wanted ≡ Err refusal) × (new ≡ old)

@@ -1,0 +1,114 @@
+-- The handle database (UEFI 2.10, section 7.3): its handles, the protocol interfaces on them, and who opened each.
+use Rattle.std.specs.Prelude.{ℕ, ◌+◌, ◌*◌, ◌==◌, ◌&&◌, not, Bool, true, List, [], ◌∷◌, ◌++◌, Option, Some, None, if◌then◌else◌}
+use Rattle.std.specs.List.{find, filter, list_any}
+use Rattle.std.specs.Option.{option_map, is_some}
+use Rattle.uh_base.specs.declared.guid.Guid.{Guid}
+use Rattle.handle_db.specs.declared.entry.OpenEntry.{OpenEntry}
+
+-- one protocol on a handle: its GUID, its interface, and the record of its opens, the oldest first
+pub record Pair : Type 0 where
+  pub guid : Guid
+  pub interface : ℕ
+  pub opens : List OpenEntry
+
+-- a handle as it is shown, and its protocols in the order in which they were installed
+pub record Handle : Type 0 where
+  pub number : ℕ
+  pub pairs : List Pair
+
+-- the live handles in order of making, and how many were made in all
+pub record Database : Type 0 where
+  pub live : List Handle
+  pub made : ℕ
+
+abbrev pub same_guid : Guid → Guid → Bool
+same_guid a b = a.d1 == b.d1 && (a.d2 == b.d2 && (a.d3 == b.d3 && a.d4 == b.d4))
+
+-- how handle k is shown, from 1 in order of making
+abbrev pub shown : ℕ → ℕ
+shown k = 16 * k
+
+abbrev pub has_number : ℕ → Handle → Bool
+has_number number handle = handle.number == number
+
+abbrev pub has_guid : Guid → Pair → Bool
+has_guid guid pair = same_guid pair.guid guid
+
+-- the live handle that is shown so
+unfoldable pub handle_in : Database → ℕ → Option Handle
+handle_in d number = find (has_number number) d.live
+
+-- the protocol of a handle that has a GUID
+unfoldable pub pair_on : Guid → Option Handle → Option Pair
+pair_on guid None = None
+pair_on guid (Some handle) = find (has_guid guid) handle.pairs
+
+abbrev pub pair_in : Database → ℕ → Guid → Option Pair
+pair_in d number guid = pair_on guid (handle_in d number)
+
+abbrev pub is_handle : Database → ℕ → Bool
+is_handle d number = is_some (handle_in d number)
+
+abbrev pub interface_in : Database → ℕ → Guid → Option ℕ
+interface_in d number guid = option_map (λ (p : Pair). p.interface) (pair_in d number guid)
+
+abbrev pub opens_in : Database → ℕ → Guid → Option (List OpenEntry)
+opens_in d number guid = option_map (λ (p : Pair). p.opens) (pair_in d number guid)
+
+-- the first element that passes a test is changed, and all others are as they were
+unfoldable pub at_first : {X : Type 0} → (X → Bool) → (X → X) → List X → List X
+at_first test change [] = []
+at_first test change (x ∷ xs) = if test x then change x ∷ xs else x ∷ at_first test change xs
+
+-- the handle has these protocols
+abbrev pub with_pairs : Database → ℕ → List Pair → Database
+with_pairs d number pairs = record d { live = at_first (has_number number) (λ h. record h { pairs = pairs }) d.live }
+
+-- a protocol of the handle has its opens changed
+abbrev pub with_opens : Guid → (List OpenEntry → List OpenEntry) → List Pair → List Pair
+with_opens guid change pairs = at_first (has_guid guid) (λ p. record p { opens = change p.opens }) pairs
+
+unfoldable pub reopened : Database → ℕ → Guid → (List OpenEntry → List OpenEntry) → Database
+reopened d number guid change = record d { live = at_first (has_number number) (λ h. record h { pairs = with_opens guid change h.pairs }) d.live }
+
+-- the protocols but for those of a GUID
+abbrev pub without : Guid → List Pair → List Pair
+without guid pairs = filter (λ p. not (has_guid guid p)) pairs
+
+-- A handle without protocols is gone.
+abbrev pub left_with : Database → ℕ → List Pair → Database
+left_with d number [] = record d { live = filter (λ h. not (has_number number h)) d.live }
+left_with d number (pair ∷ pairs) = with_pairs d number (pair ∷ pairs)
+
+-- a protocol as it is installed, opened by nobody
+abbrev pub fresh : Guid → ℕ → Pair
+fresh guid interface = record { guid = guid; interface = interface; opens = [] }
+
+-- opens that are alike
+abbrev pub is_like : OpenEntry → OpenEntry → Bool
+is_like entry other = other.agent == entry.agent && (other.controller == entry.controller && other.attributes == entry.attributes)
+
+-- An entry counts one open more, up to 2^32 - 1.
+abbrev pub once_more : OpenEntry → OpenEntry
+once_more entry = record entry { count = if entry.count == 0xffffffff then entry.count else entry.count + 1 }
+
+-- An open that is like an entry counts there, and else is a new entry, which stands last.
+abbrev pub noted : OpenEntry → List OpenEntry → List OpenEntry
+noted entry opens = if list_any (is_like entry) opens then at_first (is_like entry) once_more opens else opens ++ entry ∷ []
+
+-- Opens of a test protocol (attribute 4) and those of no agent leave no entry.
+abbrev pub is_kept : OpenEntry → Bool
+is_kept entry = not (entry.attributes == 4) && not (entry.agent == 0)
+
+-- an open of a protocol of a handle
+abbrev pub with_open : Database → ℕ → Guid → OpenEntry → Database
+with_open d number guid entry = if is_kept entry then reopened d number guid (noted entry) else d
+
+-- the entries but for those of an agent for a controller
+abbrev pub closed : ℕ → ℕ → List OpenEntry → List OpenEntry
+closed agent controller opens = filter (λ e. not (e.agent == agent && e.controller == controller)) opens
+
+-- the live handles that have a protocol, or all
+abbrev pub supports : Option Guid → Handle → Bool
+supports None handle = true
+supports (Some guid) handle = list_any (has_guid guid) handle.pairs

@@ -1,0 +1,24 @@
+-- What the definitions come to.
+use Rattle.std.specs.Prelude.{ℕ, ◌≡◌, ◌<◌, ◌*◌, ◌+◌, true, Some, None, Ok}
+use Rattle.std.specs.List.{All}
+use Rattle.uh_base.specs.declared.guid.Guid.{Guid}
+use Rattle.handle_db.specs.Database.{Handle, Database, same_guid, pair_in, fresh}
+use Rattle.handle_db.specs.Calls.{Done, installation, removal, replacement}
+use Rattle.handle_db.specs.Whole.{IsDatabase}
+
+-- The fields decide: GUIDs that are the same are equal.
+abbrev pub SameIsEqual : Type 0
+SameIsEqual = (a b : Guid) → same_guid a b ≡ true → a ≡ b
+
+-- A new handle is none that was ever made, so no number is used again.
+abbrev pub NewIsNew : Type 0
+NewIsNew = (d : Database) (guid : Guid) (interface : ℕ) (done : Done) → IsDatabase d → installation d None guid interface ≡ Ok done
+    → All (λ (h : Handle). h.number < done.handle) d.live × (16 * d.made < done.handle) × (done.database.made ≡ d.made + 1)
+
+-- What was taken away is not there any more, with its opens.
+abbrev pub RemovedIsGone : Type 0
+RemovedIsGone = (d new : Database) (number : ℕ) (guid : Guid) (interface : ℕ) → removal d number guid interface ≡ Ok new → pair_in new number guid ≡ None
+
+-- What was put in another's place is there, opened by nobody.
+abbrev pub ReplacedIsFresh : Type 0
+ReplacedIsFresh = (d after : Database) (number : ℕ) (guid : Guid) (old new : ℕ) → replacement d number guid old new ≡ Ok after → pair_in after number guid ≡ Some (fresh guid new)

@@ -1,0 +1,4 @@
+pub mod Database
+pub mod Whole
+pub mod Calls
+pub mod Laws

@@ -1,0 +1,330 @@
+//! The handle database.
+#![tactic(auto)]
+
+ghost use Rattle.std.specs.Prelude.{◌≡◌, ◌<◌, ◌==◌, ◌++◌, ◌∷◌, [], true, IfOk, OnOk, OnErr, IfSome, IfNone, map, length, Some, None, position, slice_set, slice_index_or};
+ghost use Rattle.std.specs.List.{list_any};
+ghost use Rattle.std.specs.Option.{option_copied, option_map};
+ghost use Rattle.uh_base.specs.declared.guid.Guid.{Guid as AnyGuid};
+ghost use Rattle.handle_db.specs.Whole.{IsDatabase};
+ghost use Rattle.handle_db.specs.Database.{Handle, Database, has_number, handle_in, pair_in, is_handle, interface_in, opens_in, reopened, noted, closed, is_kept, left_with, without, with_pairs, with_open, fresh, has_guid};
+ghost use Rattle.handle_db.specs.Calls.{installed_new, installed_on, installation, removal, replacement, handles_with, guids_in, InstallGives, ChangeGives};
+
+use crate::entry::OpenEntry;
+use crate::handle::HandleEntry;
+use crate::pair::PairEntry;
+use crate::refusal::HandleRefusal;
+use std::alloc::{AllocError, Global};
+use std::marker::Model;
+use uh_base::Guid;
+
+/// The most handles that live at a time.
+const MOST_LIVE: usize = 1024;
+
+/// The most handles that are made in all.
+const MOST_MADE: u64 = (1 << 60) - 1;
+
+/// The handle database (UEFI 2.10, section 7.3): the live handles in order of making. Handle k, from 1, is shown as
+/// 16k, and no number is used again.
+#[derive(Drop)]
+pub struct Handles {
+    live: Vec<HandleEntry>,
+    made: u64,
+}
+
+impl Model for Handles {
+    ghost use Rattle.handle_db.specs.Database.{Database};
+    ghost use Rattle.handle_db.specs.Whole.{IsDatabase};
+
+    ghost Value = { Database };
+
+    ghost view = { λ h. record { live = h.live.items; made = h.made } };
+
+    ghost invariant = { λ h. IsDatabase (record { live = h.live.items; made = h.made }) };
+}
+
+impl Handles {
+    /// A database without handles. It takes no memory.
+    pub fn new(alloc: Global) -> Handles
+        ensures { result ≡ record { live = []; made = 0 } }
+    {
+        Handles {
+            live: Vec::new(alloc),
+            made: 0,
+        }
+    }
+
+    /// What is so of every database.
+    pub fn whole(&self)
+        ensures { IsDatabase self.now }
+    {
+        let _ = &self.live;
+    }
+
+    /// The live handle that is shown so.
+    #[tactic(auto, unfolding(crate::specs::Database::handle_in))]
+    fn find(&self, handle: u64) -> Option<&HandleEntry>
+        ensures { option_copied result ≡ handle_in self.now handle }
+    {
+        self.live.iter().find(|entry| entry.number() == handle)
+    }
+
+    /// The place of the live handle that is shown so.
+    fn position(&self, handle: u64) -> Option<usize>
+        ensures { result ≡ position (has_number handle) self.now.live }
+    {
+        self.live.iter().position(|entry| entry.number() == handle)
+    }
+
+    /// The place of the live handle that is shown so, and what stands there.
+    fn place(&self, handle: u64) -> Option<usize>
+        ensures place { result ≡ position (has_number handle) self.now.live }
+        ensures none { IfNone result (handle_in self.now handle ≡ None) }
+        ensures some { IfSome result (λ place. (d : Handle) → handle_in self.now handle ≡ Some (slice_index_or self.now.live place d)) }
+    {
+        self.position(handle)
+    }
+
+    /// Whether a handle is live.
+    pub fn is_handle(&self, handle: u64) -> bool
+        ensures { result ≡ is_handle self.now handle }
+    {
+        self.find(handle).is_some()
+    }
+
+    /// The interface of a handle by a GUID. None for an unknown handle, and where it hasn't the GUID.
+    #[tactic(auto, unfolding(crate::specs::Database::pair_on))]
+    pub fn interface(&self, handle: u64, guid: &Guid) -> Option<u64>
+        ensures { result ≡ interface_in self.now handle guid.now }
+    {
+        match self.find(handle) {
+            None => None,
+            Some(entry) => match entry.pair(guid) {
+                None => None,
+                Some(pair) => Some(pair.interface()),
+            },
+        }
+    }
+
+    /// Who opened a protocol of a handle, the oldest entry first. None for an unknown handle, and where it hasn't the
+    /// GUID.
+    #[tactic(auto, unfolding(crate::specs::Database::pair_on))]
+    pub fn opens(&self, handle: u64, guid: &Guid) -> Option<&[OpenEntry]>
+        ensures { option_copied result ≡ opens_in self.now handle guid.now }
+    {
+        match self.find(handle) {
+            None => None,
+            Some(entry) => match entry.pair(guid) {
+                None => None,
+                Some(pair) => Some(pair.opens()),
+            },
+        }
+    }
+
+    /// A new handle with one protocol.
+    fn add(&mut self, guid: Guid, interface: u64) -> Result<u64, HandleRefusal>
+        ensures { InstallGives result (installed_new self.old guid interface) self.old self.new }
+    {
+        if self.live.len() >= MOST_LIVE || self.made >= MOST_MADE {
+            return Err(HandleRefusal::Full);
+        }
+        let alloc = *self.live.allocator();
+        let pairs = Vec::with_capacity(alloc, 1)?;
+        self.live.reserve(1)?;
+        let number = 16 * (self.made + 1);
+        let pair = PairEntry::new(alloc, guid, interface);
+        self.live
+            .push_reserved(HandleEntry::new(number, pairs, pair));
+        self.made += 1;
+        Ok(number)
+    }
+
+    /// One protocol more on a handle.
+    fn add_to(&mut self, handle: u64, guid: Guid, interface: u64) -> Result<u64, HandleRefusal>
+        ensures { InstallGives result (installed_on self.old handle guid interface (handle_in self.old handle)) self.old self.new }
+    {
+        let alloc = *self.live.allocator();
+        let Some(place) = self.place(handle) else {
+            return Err(HandleRefusal::Invalid);
+        };
+        if self.live[place].has(&guid) {
+            return Err(HandleRefusal::Invalid);
+        }
+        self.live[place].add(alloc, guid, interface)?;
+        Ok(handle)
+    }
+
+    /// Installs a protocol interface, which stands last on the handle, or on a new handle, which stands last among
+    /// them (InstallProtocolInterface of UEFI 2.10, section 7.3), and answers the handle. `Invalid` is for an unknown
+    /// handle and for one that has the GUID, `Full` for a new handle where 1,024 are live or 2^60 - 1 were made.
+    #[tactic(auto, unfolding(crate::specs::Calls::installation))]
+    pub fn install(
+        &mut self,
+        handle: Option<u64>,
+        guid: Guid,
+        interface: u64,
+    ) -> Result<u64, HandleRefusal>
+        ensures { InstallGives result (installation self.old handle guid interface) self.old self.new }
+    {
+        match handle {
+            None => self.add(guid, interface),
+            Some(handle) => self.add_to(handle, guid, interface),
+        }
+    }
+
+    /// The handle at a place loses its protocol of a GUID, with the opens of it.
+    fn take(&mut self, place: usize, handle: u64, guid: &Guid)
+        requires { position (has_number handle) self.old.live ≡ Some place }
+        ensures { (d : Handle) → self.new ≡ left_with self.old handle (without guid.now (slice_index_or self.old.live place d).pairs) }
+    {
+        if self.live[place].has_only(guid) {
+            self.live.retain(|entry| entry.number() != handle);
+        } else {
+            self.live[place].remove(guid);
+        }
+    }
+
+    /// The handle at a place has another interface for a GUID of its own, which stands last and which nobody has opened.
+    fn renew(&mut self, place: usize, handle: u64, guid: &Guid, interface: u64)
+        requires place { position (has_number handle) self.old.live ≡ Some place }
+        requires has { (d : Handle) → list_any (has_guid guid.now) (slice_index_or self.old.live place d).pairs ≡ true }
+        ensures { (d : Handle) → self.new ≡ with_pairs self.old handle (without guid.now (slice_index_or self.old.live place d).pairs ++ fresh guid.now interface ∷ []) }
+    {
+        let alloc = *self.live.allocator();
+        self.live[place].renew(alloc, guid, interface);
+    }
+
+    /// The handle at a place counts an open of a protocol of its.
+    fn note_at(
+        &mut self,
+        place: usize,
+        handle: u64,
+        guid: &Guid,
+        entry: OpenEntry,
+    ) -> Result<(), AllocError>
+        requires place { position (has_number handle) self.old.live ≡ Some place }
+        requires kept { is_kept entry ≡ true }
+        ensures ok { OnOk result (self.new ≡ reopened self.old handle guid.now (noted entry)) }
+        ensures err { OnErr result (self.new ≡ self.old) }
+    {
+        self.live[place].note(guid, entry)?;
+        Ok(())
+    }
+
+    /// The handle at a place loses entries of a protocol of its.
+    fn close_at(&mut self, place: usize, handle: u64, guid: &Guid, agent: u64, controller: u64)
+        requires { position (has_number handle) self.old.live ≡ Some place }
+        ensures { self.new ≡ reopened self.old handle guid.now (closed agent controller) }
+    {
+        self.live[place].close(guid, agent, controller);
+    }
+
+    /// Takes a protocol interface away, with its opens (UninstallProtocolInterface of UEFI 2.10, section 7.3, which
+    /// asks besides who opened it). A handle without protocols is gone. `Invalid` is for an unknown handle, then
+    /// `NotFound` where the handle hasn't this interface by this GUID. It takes no memory.
+    #[tactic(auto, unfolding(crate::specs::Calls::removal))]
+    pub fn remove(&mut self, handle: u64, guid: &Guid, interface: u64) -> Result<(), HandleRefusal>
+        ensures { ChangeGives result (removal self.old handle guid.now interface) self.old self.new }
+    {
+        let Some(place) = self.place(handle) else {
+            return Err(HandleRefusal::Invalid);
+        };
+        if !self.live[place].has_pair(guid, interface) {
+            return Err(HandleRefusal::NotFound);
+        }
+        self.take(place, handle, guid);
+        Ok(())
+    }
+
+    /// Takes a protocol interface away, with its opens, and puts another last in its place, opened by nobody
+    /// (ReinstallProtocolInterface of UEFI 2.10, section 7.3, which asks besides who opened it). `Invalid` and
+    /// `NotFound` are as for `remove`. It takes no memory.
+    #[tactic(auto, unfolding(crate::specs::Calls::replacement))]
+    pub fn replace(
+        &mut self,
+        handle: u64,
+        guid: &Guid,
+        old: u64,
+        new: u64,
+    ) -> Result<(), HandleRefusal>
+        ensures { ChangeGives result (replacement self.old handle guid.now old new) self.old self.new }
+    {
+        let Some(place) = self.place(handle) else {
+            return Err(HandleRefusal::Invalid);
+        };
+        if !self.live[place].has_pair(guid, old) {
+            return Err(HandleRefusal::NotFound);
+        }
+        self.renew(place, handle, guid, new);
+        Ok(())
+    }
+
+    /// Counts an open of a protocol in the entry that is like it, or else puts a new entry last. An open of a test
+    /// protocol (attribute 4) or of no agent leaves no entry, and nor does one where there is no such protocol.
+    /// On an Err nothing has changed.
+    pub fn note_open(
+        &mut self,
+        handle: u64,
+        guid: &Guid,
+        entry: OpenEntry,
+    ) -> Result<(), AllocError>
+        ensures ok { OnOk result (self.new ≡ with_open self.old handle guid.now entry) }
+        ensures err { OnErr result (self.new ≡ self.old) }
+    {
+        if !entry.is_kept() {
+            return Ok(());
+        }
+        match self.place(handle) {
+            None => Ok(()),
+            Some(place) => self.note_at(place, handle, guid, entry),
+        }
+    }
+
+    /// Takes the entries of an agent for a controller away, where there is such a protocol.
+    pub fn close_opens(&mut self, handle: u64, guid: &Guid, agent: u64, controller: u64)
+        ensures { self.new ≡ reopened self.old handle guid.now (closed agent controller) }
+    {
+        if let Some(place) = self.place(handle) {
+            self.close_at(place, handle, guid, agent, controller);
+        }
+    }
+
+    /// The live handles that have a protocol, or all, in order of making.
+    #[tactic(auto, unfolding(crate::specs::Calls::handles_with))]
+    pub fn handles_of(&self, guid: Option<&Guid>) -> Result<Vec<u64>, AllocError>
+        ensures { IfOk result (λ handles. handles.items ≡ handles_with self.now (option_copied guid.entry)) }
+    {
+        let mut handles = Vec::new(*self.live.allocator());
+        for entry in &self.live {
+            if entry.supports(guid) {
+                handles.push(entry.number())?;
+            }
+        }
+        Ok(handles)
+    }
+
+    /// The GUIDs of a handle's protocols in order, none for an unknown handle.
+    #[tactic(auto, unfolding(crate::specs::Calls::guids_in))]
+    pub fn guids_of(&self, handle: u64) -> Result<Vec<Guid>, AllocError>
+        ensures { IfOk result (λ guids. guids.items ≡ guids_in self.now handle) }
+    {
+        let alloc = *self.live.allocator();
+        match self.find(handle) {
+            None => Ok(Vec::new(alloc)),
+            Some(entry) => entry.guids(),
+        }
+    }
+
+    /// An equal database.
+    pub fn copy(&self) -> Result<Handles, AllocError>
+        ensures { IfOk result (λ handles. handles ≡ self.now) }
+    {
+        let mut live = Vec::with_capacity(*self.live.allocator(), self.live.len())?;
+        for entry in &self.live {
+            live.push(entry.copy()?)?;
+        }
+        Ok(Handles {
+            live,
+            made: self.made,
+        })
+    }
+}

@@ -1,0 +1,18 @@
+//! The handle database: handles, the protocols installed on them, and the record of who opened each.
+#![tactic(auto)]
+
+mod entry;
+mod guids;
+mod handle;
+mod handles;
+mod laws;
+mod pair;
+mod refusal;
+#[cfg(test)]
+mod tests;
+
+pub use entry::OpenEntry;
+pub use guids::is_same;
+pub use handles::Handles;
+pub use laws::{new_is_new, removed_is_gone, replaced_is_fresh, same_is_equal};
+pub use refusal::HandleRefusal;
