@@ -1,5 +1,5 @@
 -- What the calls of the handle database answer, and the database behind them (UEFI 2.10, section 7.3).
-use Rattle.std.specs.Prelude.{ℕ, ◌≡◌, ◌+◌, ◌-◌, ◌^◌, ◌==◌, ◌&&◌, ◌||◌, Bool, List, [], ◌∷◌, ◌++◌, map, length, nat_le, Option, Some, None, Result, Ok, Err, if◌then◌else◌}
+use Rattle.std.specs.Prelude.{ℕ, ◌≡◌, ◌+◌, ◌-◌, ◌^◌, ◌==◌, ◌&&◌, ◌||◌, Bool, false, List, [], ◌∷◌, ◌++◌, map, length, nat_le, Option, Some, None, Result, Ok, Err, if◌then◌else◌}
 use Rattle.std.specs.List.{filter, list_any}
 use Rattle.uh_base.specs.declared.guid.Guid.{Guid}
 use Rattle.handle_db.specs.declared.refusal.HandleRefusal.{HandleRefusal}
@@ -14,6 +14,10 @@ pub record Done : Type 0 where
 -- no more handles: 1,024 are live, or 2^60 - 1 were made
 abbrev pub is_full : Database → Bool
 is_full d = nat_le 1024 (length d.live) || nat_le (2 ^ 60 - 1) d.made
+
+-- the handle that a next one will be
+abbrev pub next_in : Database → Option ℕ
+next_in d = if is_full d then None else Some (shown (d.made + 1))
 
 -- A new handle stands last.
 abbrev pub with_handle : Database → Guid → ℕ → Database
@@ -44,6 +48,22 @@ removed_from d number guid interface (Some handle) = if has_pair guid interface 
 -- an interface is taken from a handle, with its opens
 unfoldable pub removal : Database → ℕ → Guid → ℕ → Result Database HandleRefusal
 removal d number guid interface = removed_from d number guid interface (handle_in d number)
+
+abbrev pub has_pair_on : Guid → ℕ → Option Handle → Bool
+has_pair_on guid interface None = false
+has_pair_on guid interface (Some handle) = has_pair guid interface handle
+
+-- A live handle has this interface by this GUID: just then it can be taken away.
+unfoldable pub has_pair_in : Database → ℕ → Guid → ℕ → Bool
+has_pair_in d number guid interface = has_pair_on guid interface (handle_in d number)
+
+abbrev pub discarded_on : Database → ℕ → Guid → Option Handle → Database
+discarded_on d number guid None = d
+discarded_on d number guid (Some handle) = if list_any (has_guid guid) handle.pairs then left_with d number (without guid handle.pairs) else d
+
+-- the protocol of a GUID is taken from a handle whatever its interface, with its opens, where it is there
+unfoldable pub discarded : Database → ℕ → Guid → Database
+discarded d number guid = discarded_on d number guid (handle_in d number)
 
 abbrev pub replaced_on : Database → ℕ → Guid → ℕ → ℕ → Option Handle → Result Database HandleRefusal
 replaced_on d number guid old new None = Err Invalid

@@ -7,7 +7,7 @@ ghost use Rattle.std.specs.Option.{option_copied, option_map};
 ghost use Rattle.uh_base.specs.declared.guid.Guid.{Guid as AnyGuid};
 ghost use Rattle.handle_db.specs.Whole.{IsDatabase};
 ghost use Rattle.handle_db.specs.Database.{Handle, Database, has_number, handle_in, pair_in, is_handle, interface_in, opens_in, reopened, noted, closed, is_kept, left_with, without, with_pairs, with_open, fresh, has_guid};
-ghost use Rattle.handle_db.specs.Calls.{installed_new, installed_on, installation, removal, replacement, handles_with, guids_in, InstallGives, ChangeGives};
+ghost use Rattle.handle_db.specs.Calls.{installed_new, installed_on, installation, removal, replacement, has_pair_in, discarded, next_in, handles_with, guids_in, InstallGives, ChangeGives};
 
 use crate::entry::OpenEntry;
 use crate::handle::HandleEntry;
@@ -89,6 +89,17 @@ impl Handles {
         ensures { result ≡ is_handle self.now handle }
     {
         self.find(handle).is_some()
+    }
+
+    /// The protocol of a handle by a GUID. None for an unknown handle, and where it hasn't the GUID.
+    #[tactic(auto, unfolding(crate::specs::Database::pair_on))]
+    pub fn find_pair(&self, handle: u64, guid: &Guid) -> Option<&PairEntry>
+        ensures { option_copied result ≡ pair_in self.now handle guid.now }
+    {
+        match self.find(handle) {
+            None => None,
+            Some(entry) => entry.pair(guid),
+        }
     }
 
     /// The interface of a handle by a GUID. None for an unknown handle, and where it hasn't the GUID.
@@ -180,6 +191,40 @@ impl Handles {
             self.live.retain(|entry| entry.number() != handle);
         } else {
             self.live[place].remove(guid);
+        }
+    }
+
+    /// Takes the protocol of a GUID away whatever its interface, with its opens, where it is there. It takes no memory.
+    #[tactic(auto, unfolding(crate::specs::Calls::discarded))]
+    pub fn discard(&mut self, handle: u64, guid: &Guid)
+        ensures { self.new ≡ discarded self.old handle guid.now }
+    {
+        if let Some(place) = self.place(handle) {
+            if self.live[place].has(guid) {
+                self.take(place, handle, guid);
+            }
+        }
+    }
+
+    /// Whether a live handle has this interface by this GUID. Just then `remove` takes it away.
+    #[tactic(auto, unfolding(crate::specs::Calls::has_pair_in))]
+    pub fn has_pair(&self, handle: u64, guid: &Guid, interface: u64) -> bool
+        ensures { result ≡ has_pair_in self.now handle guid.now interface }
+    {
+        match self.find(handle) {
+            None => false,
+            Some(entry) => entry.has_pair(guid, interface),
+        }
+    }
+
+    /// The handle that a next one will be. None exactly where `install` answers `Full` for a new handle.
+    pub fn next(&self) -> Option<u64>
+        ensures { result ≡ next_in self.now }
+    {
+        if self.live.len() >= MOST_LIVE || self.made >= MOST_MADE {
+            None
+        } else {
+            Some(16 * (self.made + 1))
         }
     }
 

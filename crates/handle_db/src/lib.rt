@@ -15,4 +15,5 @@ pub use entry::OpenEntry;
 pub use guids::is_same;
 pub use handles::Handles;
 pub use laws::{new_is_new, removed_is_gone, replaced_is_fresh, same_is_equal};
+pub use pair::PairEntry;
 pub use refusal::HandleRefusal;
