@@ -1,0 +1,16 @@
+use Rattle.std.proofs.Common.{refl}
+use Rattle.protocol_db.proofs.WholeLemmas.{told_write}
+use Rattle.protocol_db.proofs.CallLemmas.{install_full, install_here}
+use Rattle.protocol_db.proofs.protocols.Protocols.install.Goals as goal
+
+pub returns-in_default : goal.returns-in_default
+returns-in_default c = (install_full c.args.self.now c.args.handle c.args.guid c.args.interface c.target.result c.target.ensures c.in_default.is, refl)
+
+pub invariant_of-self : goal.invariant_of-self
+invariant_of-self c =
+    told_write c.args.self.now c.self.inside.handles c.install.new.self c.self.inside.registrations.items c.in_ok-told.told.items c.self.inside.made c.args.guid c.in-Some.target c.self.view_is c.self.invariant c.whole.ensures c.in_ok-told.ensures
+
+pub returns-in-Ok : goal.returns-in-Ok
+returns-in-Ok c =
+    install_here c.args.self.now c.self.inside.handles c.install.new.self c.self.inside.registrations.items c.in_ok-told.told.items c.self.inside.made c.args.handle c.args.guid c.args.interface c.in-Some.target c.in-Ok.handle c.target.result c.in_ok-events.events.items c.self.view_is
+    c.in-Ok.ensures c.target.ensures c.in-Some.is c.in_ok-events.ensures c.in_ok-told.ensures

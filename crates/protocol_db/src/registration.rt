@@ -1,0 +1,131 @@
+//! One registration.
+#![tactic(auto)]
+
+ghost use Rattle.std.specs.Prelude.{◌≡◌, ◌==◌, [], IfOk, IfSome, drop, slice_get};
+ghost use Rattle.std.specs.List.{list_any};
+ghost use Rattle.protocol_db.specs.Registrations.{Registration, is_for, told, untold, none_told};
+
+use handle_db::is_same;
+use std::alloc::{AllocError, Global};
+use std::marker::Model;
+use uh_base::Guid;
+
+/// An event that is told of new interfaces of a protocol.
+#[derive(Drop)]
+pub struct RegistrationEntry {
+    number: u64,
+    guid: Guid,
+    event: u64,
+    pending: Vec<u64>,
+}
+
+impl Model for RegistrationEntry {
+    ghost use Rattle.protocol_db.specs.Registrations.{Registration};
+
+    ghost Value = { Registration };
+
+    ghost view = { λ r. record { number = r.number; guid = r.guid; event = r.event; pending = r.pending.items } };
+}
+
+impl RegistrationEntry {
+    /// A registration with no handle pending. It takes no memory.
+    pub fn new(alloc: Global, number: u64, guid: Guid, event: u64) -> RegistrationEntry
+        ensures { result ≡ record { number = number; guid = guid; event = event; pending = [] } }
+    {
+        RegistrationEntry {
+            number,
+            guid,
+            event,
+            pending: Vec::new(alloc),
+        }
+    }
+
+    /// The registration as it is shown.
+    pub fn number(&self) -> u64
+        ensures { result ≡ self.now.number }
+    {
+        self.number
+    }
+
+    /// The event.
+    pub fn event(&self) -> u64
+        ensures { result ≡ self.now.event }
+    {
+        self.event
+    }
+
+    /// Whether it is for a protocol.
+    pub fn is_for(&self, guid: &Guid) -> bool
+        ensures { result ≡ is_for guid.now self.now }
+    {
+        is_same(&self.guid, guid)
+    }
+
+    /// Whether a handle is pending.
+    fn is_pending(&self, handle: u64) -> bool
+        ensures { result ≡ list_any (λ h. h == handle) self.now.pending }
+    {
+        self.pending.iter().any(|pending| *pending == handle)
+    }
+
+    /// An equal registration.
+    pub fn copy(&self) -> Result<RegistrationEntry, AllocError>
+        ensures { IfOk result (λ entry. entry ≡ self.now) }
+    {
+        Ok(RegistrationEntry {
+            number: self.number,
+            guid: self.guid,
+            event: self.event,
+            pending: Vec::from_slice(*self.pending.allocator(), self.pending.as_slice())?,
+        })
+    }
+
+    /// The registration that was told of an interface of a protocol on a handle.
+    pub fn told(&self, guid: &Guid, handle: u64) -> Result<RegistrationEntry, AllocError>
+        ensures { IfOk result (λ entry. entry ≡ told guid.now handle self.now) }
+    {
+        let mut entry = self.copy()?;
+        if self.is_for(guid) && !self.is_pending(handle) {
+            entry.pending.push(handle)?;
+        }
+        Ok(entry)
+    }
+
+    /// A handle whose interface of a protocol is gone is pending no more.
+    pub fn untell(&mut self, guid: &Guid, handle: u64)
+        ensures { self.new ≡ untold guid.now handle self.old }
+    {
+        if self.is_for(guid) {
+            self.pending.retain(|pending| *pending != handle);
+        }
+    }
+
+    /// The handle that is pending longest.
+    pub fn first(&self) -> Option<u64>
+        ensures { result ≡ slice_get self.now.pending 0 }
+    {
+        self.pending.first().copied()
+    }
+
+    /// The handle that is pending longest, pending no more.
+    pub fn take_first(&mut self) -> Option<u64>
+        ensures first { result ≡ slice_get self.old.pending 0 }
+        ensures rest { self.new ≡ record self.old { pending = drop 1 self.old.pending } }
+    {
+        if self.pending.is_empty() {
+            None
+        } else {
+            Some(self.pending.remove(0))
+        }
+    }
+}
+
+/// A handle whose interface of a protocol is gone is pending no more, for any registration of it.
+#[tactic(auto, unfolding(crate::specs::Registrations::none_told))]
+pub fn untell_all(entries: &mut Vec<RegistrationEntry>, guid: &Guid, handle: u64)
+    ensures { entries.new.items ≡ none_told entries.old.items guid.now handle }
+{
+    for entry in entries.iter_mut() {
+        entry.untell(guid, handle);
+    }
+}
