@@ -104,9 +104,13 @@ is_kept entry = not (entry.attributes == 4) && not (entry.agent == 0)
 abbrev pub with_open : Database → ℕ → Guid → OpenEntry → Database
 with_open d number guid entry = if is_kept entry then reopened d number guid (noted entry) else d
 
+-- an entry of an agent for a controller
+abbrev pub is_between : ℕ → ℕ → OpenEntry → Bool
+is_between agent controller e = e.agent == agent && e.controller == controller
+
 -- the entries but for those of an agent for a controller
 abbrev pub closed : ℕ → ℕ → List OpenEntry → List OpenEntry
-closed agent controller opens = filter (λ e. not (e.agent == agent && e.controller == controller)) opens
+closed agent controller opens = filter (λ e. not (is_between agent controller e)) opens
 
 -- the live handles that have a protocol, or all
 abbrev pub supports : Option Guid → Handle → Bool

@@ -2,7 +2,7 @@
 #![tactic(auto)]
 
 ghost use Rattle.std.specs.Prelude.{◌≡◌};
-ghost use Rattle.handle_db.specs.Database.{is_like, once_more, is_kept};
+ghost use Rattle.handle_db.specs.Database.{is_like, is_between, once_more, is_kept};
 
 /// The record of opens of one protocol interface that are alike
 /// (EFI_OPEN_PROTOCOL_INFORMATION_ENTRY of UEFI 2.10, section 7.3).
@@ -26,6 +26,13 @@ impl OpenEntry {
         other.agent == self.agent
             && other.controller == self.controller
             && other.attributes == self.attributes
+    }
+
+    /// Whether it is an agent's for a controller.
+    pub fn is_between(&self, agent: u64, controller: u64) -> bool
+        ensures { result ≡ is_between agent controller self.now }
+    {
+        self.agent == agent && self.controller == controller
     }
 
     /// The entry with one open more.

@@ -99,8 +99,8 @@ impl HandleEntry {
         ensures { self.new ≡ record self.old { pairs = without guid.now self.old.pairs ++ fresh guid.now interface ∷ [] } }
     {
         self.pairs.retain(|pair| !pair.is_of(guid));
-        self.pairs
-            .push_reserved(PairEntry::new(alloc, *guid, interface));
+        let pair = PairEntry::new(alloc, *guid, interface);
+        self.pairs.push_reserved(pair);
     }
 
     /// The place of the protocol of a GUID.

@@ -6,7 +6,7 @@ use Rattle.uh_base.specs.declared.guid.Guid.{Guid}
 use Rattle.handle_db.specs.declared.entry.OpenEntry.{OpenEntry}
 use Rattle.handle_db.specs.declared.refusal.HandleRefusal.{HandleRefusal}
 use Rattle.handle_db.specs.declared.refusal.HandleRefusal.TheVariants as handle
-use Rattle.handle_db.specs.Database.{Database, is_handle, pair_in, opens_in, reopened, closed, with_open}
+use Rattle.handle_db.specs.Database.{Database, is_handle, pair_in, opens_in, reopened, is_between, closed, with_open}
 use Rattle.handle_db.specs.Calls.{Done as HandleDone, installation as handle_installation, next_in, removal, replacement, discarded}
 use Rattle.protocol_db.specs.declared.request.OpenRequest.{OpenRequest}
 use Rattle.protocol_db.specs.declared.refusal.ProtocolRefusal.{ProtocolRefusal}
@@ -78,10 +78,6 @@ opened p r (Err refusal) = Err refusal
 -- OpenProtocol
 unfoldable pub protocol_opening : Protocols → OpenRequest → Result (Done ℕ) ProtocolRefusal
 protocol_opening p r = opened p r (opening p.handles r)
-
--- an entry of an agent for a controller
-abbrev pub is_between : ℕ → ℕ → OpenEntry → Bool
-is_between agent controller e = e.agent == agent && e.controller == controller
 
 abbrev pub has_between : ℕ → ℕ → Option (List OpenEntry) → Bool
 has_between agent controller None = false

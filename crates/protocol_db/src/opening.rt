@@ -3,8 +3,7 @@
 
 ghost use Rattle.std.specs.Prelude.{◌≡◌, ◌&&◌, Some};
 ghost use Rattle.protocol_db.specs.Opening.{is_attribute, asks_agent, asks_controller, is_by_driver, is_alone, is_holding, entry_of, judged};
-ghost use Rattle.protocol_db.specs.Calls.{is_between};
-ghost use Rattle.handle_db.specs.Database.{is_like};
+ghost use Rattle.handle_db.specs.Database.{is_like, is_between};
 ghost use Rattle.std.specs.List.{list_any};
 
 use crate::refusal::ProtocolRefusal;

@@ -17,4 +17,4 @@ push_reserved-requires c =
 pub returns : goal.returns
 returns c =
     let kept : c.retain.new.self.items ≡ without c.args.guid.now c.self.inside.pairs.items = filter_same _ _ _ (λ x b f' k. search rules) _ _ c.retain.ensures.filtered in
-    handle_with (λ (ps : List Pair). without c.args.guid.now ps ++ fresh c.args.guid.now c.args.interface ∷ []) _ _ _ _ c.self.view_is (renewed c.args.guid.now c.args.interface c.self.inside.pairs.items c.retain.new.self.items _ _ kept c.new.ensures c.push_reserved.ensures.items)
+    handle_with (λ (ps : List Pair). without c.args.guid.now ps ++ fresh c.args.guid.now c.args.interface ∷ []) _ _ _ _ c.self.view_is (renewed c.args.guid.now c.args.interface c.self.inside.pairs.items c.retain.new.self.items _ _ kept c.new-pair.ensures c.push_reserved.ensures.items)
