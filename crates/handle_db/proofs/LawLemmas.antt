@@ -5,10 +5,10 @@ use Rattle.std.specs.List.{find, filter, list_any, All}
 use Rattle.uh_base.specs.declared.guid.Guid.{Guid}
 use Rattle.std.proofs.lemmas.Bool.Decides.{nat_tests}
 use Rattle.handle_db.specs.Database.{Pair, Handle, Database, same_guid, has_number, has_guid, handle_in, pair_on, pair_in, at_first, with_pairs, without, left_with, fresh}
-use Rattle.handle_db.specs.Calls.{Done, is_full, with_handle, has_pair, installation, removal, removed_from, replacement, replaced_on}
+use Rattle.handle_db.specs.Calls.{Done, is_full, with_handle, has_pair, installation, removal, removed_from, replacement, replaced_on, discarded, discarded_on}
 use Rattle.handle_db.specs.declared.refusal.HandleRefusal.TheVariants.{NotFound, Full}
 use Rattle.handle_db.specs.Whole.{IsDatabase}
-use Rattle.handle_db.specs.Laws.{SameIsEqual, NewIsNew, RemovedIsGone, ReplacedIsFresh}
+use Rattle.handle_db.specs.Laws.{SameIsEqual, NewIsNew, RemovedIsGone, ReplacedIsFresh, DiscardedIsGone}
 use Rattle.handle_db.proofs.ListLemmas.{none_left, find_none}
 
 both : (a b : Bool) → (a && b) ≡ true → (a ≡ true) × (b ≡ true)
@@ -104,3 +104,16 @@ replaced_by d after n guid old new (Some handle) e h = by (has_pair guid old han
 pub replaced_is_fresh : ReplacedIsFresh
 unfolding replacement
 replaced_is_fresh d after n guid old new e = replaced_by d after n guid old new (handle_in d n) refl e
+
+discarded_by : (d : Database) (n : ℕ) (guid : Guid) (o : Option Handle) → handle_in d n ≡ o → pair_in (discarded_on d n guid o) n guid ≡ None
+unfolding pair_on
+discarded_by d n guid None e = rw e refl
+discarded_by d n guid (Some handle) e = by (list_any (has_guid guid) handle.pairs) refl
+  where
+    by : (b : Bool) → list_any (has_guid guid) handle.pairs ≡ b → pair_in (if b then left_with d n (without guid handle.pairs) else d) n guid ≡ None
+    by true k = left_is d n guid handle (without guid handle.pairs) e (gone (has_guid guid) handle.pairs)
+    by false k = rw e (find_none (has_guid guid) handle.pairs k)
+
+pub discarded_is_gone : DiscardedIsGone
+unfolding discarded
+discarded_is_gone d n guid = discarded_by d n guid (handle_in d n) refl

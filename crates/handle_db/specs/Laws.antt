@@ -3,7 +3,7 @@ use Rattle.std.specs.Prelude.{ℕ, ◌≡◌, ◌<◌, ◌*◌, ◌+◌, true, S
 use Rattle.std.specs.List.{All}
 use Rattle.uh_base.specs.declared.guid.Guid.{Guid}
 use Rattle.handle_db.specs.Database.{Handle, Database, same_guid, pair_in, fresh}
-use Rattle.handle_db.specs.Calls.{Done, installation, removal, replacement}
+use Rattle.handle_db.specs.Calls.{Done, installation, removal, replacement, discarded}
 use Rattle.handle_db.specs.Whole.{IsDatabase}
 
 -- The fields decide: GUIDs that are the same are equal.
@@ -22,3 +22,7 @@ RemovedIsGone = (d new : Database) (number : ℕ) (guid : Guid) (interface : ℕ
 -- What was put in another's place is there, opened by nobody.
 abbrev pub ReplacedIsFresh : Type 0
 ReplacedIsFresh = (d after : Database) (number : ℕ) (guid : Guid) (old new : ℕ) → replacement d number guid old new ≡ Ok after → pair_in after number guid ≡ Some (fresh guid new)
+
+-- What was discarded is not there any more, with its opens.
+abbrev pub DiscardedIsGone : Type 0
+DiscardedIsGone = (d : Database) (number : ℕ) (guid : Guid) → pair_in (discarded d number guid) number guid ≡ None

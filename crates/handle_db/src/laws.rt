@@ -2,7 +2,7 @@
 //! protocols is gone, and that an entry names neither attribute 4 nor agent 0, `Handles::whole` says of every database.
 #![tactic(auto)]
 
-ghost use Rattle.handle_db.specs.Laws.{SameIsEqual, NewIsNew, RemovedIsGone, ReplacedIsFresh};
+ghost use Rattle.handle_db.specs.Laws.{SameIsEqual, NewIsNew, RemovedIsGone, ReplacedIsFresh, DiscardedIsGone};
 
 /// GUIDs that are the same field by field are equal.
 pub fn same_is_equal()
@@ -22,4 +22,9 @@ pub fn removed_is_gone()
 /// An interface that was put in another's place is there, and nobody has opened it.
 pub fn replaced_is_fresh()
     ensures { ReplacedIsFresh }
+{}
+
+/// A protocol that was discarded is not there any more, and nor are its opens.
+pub fn discarded_is_gone()
+    ensures { DiscardedIsGone }
 {}

@@ -14,6 +14,6 @@ mod tests;
 pub use entry::OpenEntry;
 pub use guids::is_same;
 pub use handles::Handles;
-pub use laws::{new_is_new, removed_is_gone, replaced_is_fresh, same_is_equal};
+pub use laws::{discarded_is_gone, new_is_new, removed_is_gone, replaced_is_fresh, same_is_equal};
 pub use pair::PairEntry;
 pub use refusal::HandleRefusal;

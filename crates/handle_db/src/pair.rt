@@ -94,7 +94,8 @@ impl PairEntry {
     pub fn close(&mut self, agent: u64, controller: u64)
         ensures { self.new ≡ record self.old { opens = closed agent controller self.old.opens } }
     {
-        self.opens.retain(|entry| !(entry.agent == agent && entry.controller == controller));
+        self.opens
+            .retain(|entry| !entry.is_between(agent, controller));
     }
 
     /// An equal protocol.

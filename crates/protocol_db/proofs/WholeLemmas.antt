@@ -1,6 +1,6 @@
 -- What the calls leave so of every state.
 use Rattle.std.proofs.Common.{◌≡◌, ◌∙◌, ℕ, zero, suc, ◌+◌, ◌-◌, ◌*◌, ◌<◌, ◌^◌, List, [], ◌∷◌, ◌++◌, length, length-append, get_or, drop, refl, sym, ap, subst, arith, Bool, true, false}
-use Rattle.std.specs.Prelude.{map, if◌then◌else◌, not, ◌==◌}
+use Rattle.std.specs.Prelude.{map, Option, Some, None, if◌then◌else◌, not, ◌==◌, ◌||◌, MatchOption}
 use Rattle.std.specs.List.{filter, list_any, AllPairs}
 use Rattle.std.proofs.lemmas.List.{length-map}
 use Rattle.std.proofs.lemmas.List.Elements.{All-map, All-filter, All-push, All-weaker}
@@ -156,3 +156,22 @@ untold_write p hs d before after made guid n all there k =
 pub forgotten_write : (p : Protocols) (hs : Database) (before after : List Registration) (made event : ℕ) → record { handles = hs; registrations = before; made = made } ≡ p → after ≡ filter (λ r. not (r.event == event)) before → record { handles = hs; registrations = after; made = made } ≡ forgotten p event
 unfolding forgotten
 forgotten_write p hs before after made event e k = subst (λ (q : Protocols). record { handles = hs; registrations = after; made = made } ≡ record q { registrations = filter (λ r. not (r.event == event)) q.registrations }) e (ap (λ rs. record { handles = hs; registrations = rs; made = made }) k)
+
+-- where no registration is for a GUID, none is told
+none_for : (guid : Guid) (n : ℕ) (rs : List Registration) → list_any (is_for guid) rs ≡ false → map (told guid n) rs ≡ rs
+none_for guid n [] e = refl
+none_for guid n (r ∷ rs) e = by (is_for guid r) e (none_for guid n rs)
+  where
+    by : (b : Bool) → (b || list_any (is_for guid) rs) ≡ false → (list_any (is_for guid) rs ≡ false → map (told guid n) rs ≡ rs) → (if b then record r { pending = pended n r.pending } else r) ∷ map (told guid n) rs ≡ r ∷ rs
+    by true h more = absurd (cc)
+    by false h more = ap (λ qs. r ∷ qs) (more h)
+
+pub nobody_told : (guid : Guid) (n : ℕ) (rs : List Registration) (b : Bool) → b ≡ list_any (is_for guid) rs → b ≡ false → all_told rs guid n ≡ rs
+unfolding all_told
+nobody_told guid n rs b is f = none_for guid n rs (sym is ∙ f)
+
+-- what is put in place
+pub put_is : {V : Type 0} (items : V → List Registration) (o : Option V) (p : Protocols) (hs : Database) (before after wanted : List Registration) (made : ℕ) → record { handles = hs; registrations = before; made = made } ≡ p
+    → MatchOption o (wanted ≡ p.registrations) (λ v. items v ≡ wanted) → MatchOption o (after ≡ before) (λ v. after ≡ items v) → after ≡ wanted
+put_is items None p hs before after wanted made e told put = put ∙ ap (λ (q : Protocols). q.registrations) e ∙ sym told
+put_is items (Some v) p hs before after wanted made e told put = put ∙ told

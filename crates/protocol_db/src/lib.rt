@@ -2,6 +2,7 @@
 #![tactic(auto)]
 
 mod installed;
+mod laws;
 mod opening;
 mod protocols;
 mod refusal;
@@ -12,6 +13,9 @@ mod tests;
 
 pub use handle_db::OpenEntry;
 pub use installed::Installed;
+pub use laws::{
+    dropped_is_withdrawn, installed_is_pending, reinstalled_is_fresh, uninstalled_is_withdrawn,
+};
 pub use protocols::Protocols;
 pub use refusal::ProtocolRefusal;
 pub use request::OpenRequest;

@@ -1,12 +1,12 @@
 //! Protocols on handles.
 #![tactic(auto)]
 
-ghost use Rattle.std.specs.Prelude.{◌≡◌, ◌&&◌, [], Ok, IfOk, IfErr, position};
+ghost use Rattle.std.specs.Prelude.{◌≡◌, ◌&&◌, [], Ok, IfOk, IfErr, MatchOption, position};
 ghost use Rattle.std.specs.List.{find, list_any};
 ghost use Rattle.std.specs.Option.{option_copied};
 ghost use Rattle.handle_db.specs.Calls.{has_pair_in};
 ghost use Rattle.handle_db.specs.Database.{interface_in, opens_in};
-ghost use Rattle.protocol_db.specs.Registrations.{events_for, all_told, none_told, is_numbered, first_pending, first_taken};
+ghost use Rattle.protocol_db.specs.Registrations.{events_for, all_told, none_told, is_for, is_numbered, first_pending, first_taken};
 ghost use Rattle.protocol_db.specs.Opening.{is_askable, opening, is_held};
 ghost use Rattle.protocol_db.specs.Calls.{target_in, may_close, has_between, installation, uninstallation, reinstallation, protocol_opening, closing, information, registration, forgotten, dropped, Gives, ChangeGives, Refuses};
 ghost use Rattle.protocol_db.specs.Whole.{IsWhole};
@@ -14,7 +14,7 @@ ghost use Rattle.protocol_db.specs.Whole.{IsWhole};
 use crate::installed::Installed;
 use crate::opening::{any_between, any_holding, asks_agent, asks_controller, is_attribute, judged};
 use crate::refusal::{ProtocolRefusal, refused};
-use crate::registration::{RegistrationEntry, untell_all};
+use crate::registration::{RegistrationEntry, all_told, put_told, untell_all};
 use crate::request::OpenRequest;
 use handle_db::{Handles, OpenEntry};
 use std::alloc::{AllocError, Global};
@@ -89,19 +89,22 @@ impl Protocols {
         Ok(events)
     }
 
-    /// The registrations once those of a protocol are told of an interface on a handle.
-    #[tactic(auto, unfolding(crate::specs::Registrations::all_told))]
-    fn told(&self, guid: &Guid, handle: u64) -> Result<Vec<RegistrationEntry>, AllocError>
-        ensures { IfOk result (λ told. told.items ≡ all_told self.now.registrations guid.now handle) }
+    /// The registrations once those of a protocol are told of an interface on a handle. None where none is for it, and
+    /// they stay as they are.
+    fn told(&self, guid: &Guid, handle: u64) -> Result<Option<Vec<RegistrationEntry>>, AllocError>
+        ensures { IfOk result (λ told. MatchOption told (all_told self.now.registrations guid.now handle ≡ self.now.registrations) (λ entries. entries.items ≡ all_told self.now.registrations guid.now handle)) }
     {
-        let mut told = Vec::with_capacity(
-            *self.registrations.allocator(),
-            self.registrations.len(),
-        )?;
-        for entry in &self.registrations {
-            told.push(entry.told(guid, handle)?)?;
+        if !self.is_registered(guid) {
+            return Ok(None);
         }
-        Ok(told)
+        Ok(Some(all_told(&self.registrations, guid, handle)?))
+    }
+
+    /// Whether a registration is for a protocol.
+    fn is_registered(&self, guid: &Guid) -> bool
+        ensures { result ≡ list_any (is_for guid.now) self.now.registrations }
+    {
+        self.registrations.iter().any(|entry| entry.is_for(guid))
     }
 
     /// The handle on which an install will be. None exactly where it is `Full`.
@@ -136,7 +139,7 @@ impl Protocols {
         match self.handles.install(handle, guid, interface) {
             Ok(handle) => {
                 self.handles.whole();
-                self.registrations = told;
+                put_told(&mut self.registrations, told);
                 Ok(Installed { handle, events })
             }
             Err(refusal) => Err(refused(refusal)),
@@ -379,7 +382,7 @@ impl Protocols {
         match self.handles.replace(handle, guid, old, new) {
             Ok(()) => {
                 self.handles.whole();
-                self.registrations = told;
+                put_told(&mut self.registrations, told);
                 Ok(Installed { handle, events })
             }
             Err(refusal) => Err(refused(refusal)),

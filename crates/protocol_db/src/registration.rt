@@ -1,9 +1,9 @@
 //! One registration.
 #![tactic(auto)]
 
-ghost use Rattle.std.specs.Prelude.{◌≡◌, ◌==◌, [], IfOk, IfSome, drop, slice_get};
+ghost use Rattle.std.specs.Prelude.{◌≡◌, ◌==◌, [], IfOk, MatchOption, drop, slice_get};
 ghost use Rattle.std.specs.List.{list_any};
-ghost use Rattle.protocol_db.specs.Registrations.{Registration, is_for, told, untold, none_told};
+ghost use Rattle.protocol_db.specs.Registrations.{Registration, is_for, told, untold, all_told, none_told};
 
 use handle_db::is_same;
 use std::alloc::{AllocError, Global};
@@ -117,6 +117,31 @@ impl RegistrationEntry {
         } else {
             Some(self.pending.remove(0))
         }
+    }
+}
+
+/// The registrations once those of a protocol are told of an interface on a handle.
+#[tactic(auto, unfolding(crate::specs::Registrations::all_told))]
+pub fn all_told(
+    entries: &Vec<RegistrationEntry>,
+    guid: &Guid,
+    handle: u64,
+) -> Result<Vec<RegistrationEntry>, AllocError>
+    ensures { IfOk result (λ told. told.items ≡ all_told entries.now.items guid.now handle) }
+{
+    let mut told = Vec::with_capacity(*entries.allocator(), entries.len())?;
+    for entry in entries {
+        told.push(entry.told(guid, handle)?)?;
+    }
+    Ok(told)
+}
+
+/// Puts registrations that were told in place of those before, where there are any.
+pub fn put_told(entries: &mut Vec<RegistrationEntry>, told: Option<Vec<RegistrationEntry>>)
+    ensures { MatchOption told (entries.new.items ≡ entries.old.items) (λ told. entries.new.items ≡ told.items) }
+{
+    if let Some(told) = told {
+        *entries = told;
     }
 }
 

@@ -1,0 +1,100 @@
+-- What the definitions come to.
+use Rattle.std.proofs.Common.{◌≡◌, ℕ, List, [], ◌∷◌, ◌++◌, refl, subst, arith, Bool, true, false}
+use Rattle.std.specs.Prelude.{map, Some, Result, Ok, Err, if◌then◌else◌, not, ◌==◌, ◌||◌}
+use Rattle.std.specs.List.{filter, list_any, All}
+use Rattle.std.proofs.lemmas.Bool.Decides.{nat_tests}
+use Rattle.std.proofs.lemmas.List.Elements.{All-nil, All-cons}
+use Rattle.uh_base.specs.declared.guid.Guid.{Guid}
+use Rattle.handle_db.specs.declared.refusal.HandleRefusal.{HandleRefusal}
+use Rattle.handle_db.specs.Database.{Database, pair_in, fresh}
+use Rattle.handle_db.specs.Calls.{Done as HandleDone, installation as handle_installation, removal, replacement}
+use Rattle.handle_db.proofs.ListLemmas.{none_left}
+use Rattle.handle_db.proofs.LawLemmas.{removed_is_gone, replaced_is_fresh, discarded_is_gone}
+use Rattle.protocol_db.specs.declared.refusal.ProtocolRefusal.TheVariants.{AccessDenied}
+use Rattle.protocol_db.specs.Opening.{is_held}
+use Rattle.protocol_db.specs.Registrations.{Registration, Protocols, is_for, pended, told, untold, all_told, none_told}
+use Rattle.protocol_db.specs.Calls.{Done, Installation, announced, installed, installation, withdrawn, uninstalled, uninstallation, reinstalled, reinstallation, dropped}
+use Rattle.protocol_db.specs.Laws.{IsWithdrawn, UninstalledIsWithdrawn, DroppedIsWithdrawn, ReinstalledIsFresh, InstalledIsPending}
+
+-- a registration that was told, or is told no more
+silent_one : (guid : Guid) (n : ℕ) (r : Registration) → is_for guid (untold guid n r) ≡ true → list_any (λ h. h == n) (untold guid n r).pending ≡ false
+silent_one guid n r = by (is_for guid r) refl
+  where
+    by : (b : Bool) → is_for guid r ≡ b → is_for guid (if b then record r { pending = filter (λ h. not (h == n)) r.pending } else r) ≡ true → list_any (λ h. h == n) (if b then record r { pending = filter (λ h. not (h == n)) r.pending } else r).pending ≡ false
+    by true e h = none_left (λ h. h == n) r.pending
+    by false e h = absurd (cc)
+
+silent_all : (guid : Guid) (n : ℕ) (rs : List Registration) → All (λ (r : Registration). is_for guid r ≡ true → list_any (λ h. h == n) r.pending ≡ false) (none_told rs guid n)
+unfolding none_told
+silent_all guid n [] = All-nil (λ (r : Registration). is_for guid r ≡ true → list_any (λ h. h == n) r.pending ≡ false)
+silent_all guid n (r ∷ rs) = All-cons (λ (r : Registration). is_for guid r ≡ true → list_any (λ h. h == n) r.pending ≡ false) (untold guid n r) (map (untold guid n) rs) (silent_one guid n r) (silent_all guid n rs)
+
+itself : (n : ℕ) → (n == n) ≡ true
+itself n = grind (arith, nat_tests)
+
+last_is : (n : ℕ) (pending : List ℕ) → list_any (λ h. h == n) (pending ++ n ∷ []) ≡ true
+last_is n [] = rw (itself n) refl
+last_is n (x ∷ xs) = by (x == n) (last_is n xs)
+  where
+    by : (b : Bool) → list_any (λ h. h == n) (xs ++ n ∷ []) ≡ true → (b || list_any (λ h. h == n) (xs ++ n ∷ [])) ≡ true
+    by true h = refl
+    by false h = h
+
+pended_is : (n : ℕ) (pending : List ℕ) → list_any (λ h. h == n) (pended n pending) ≡ true
+pended_is n pending = by (list_any (λ h. h == n) pending) refl
+  where
+    by : (b : Bool) → list_any (λ h. h == n) pending ≡ b → list_any (λ h. h == n) (if b then pending else pending ++ n ∷ []) ≡ true
+    by true e = e
+    by false e = last_is n pending
+
+pending_one : (guid : Guid) (n : ℕ) (r : Registration) → is_for guid (told guid n r) ≡ true → list_any (λ h. h == n) (told guid n r).pending ≡ true
+pending_one guid n r = by (is_for guid r) refl
+  where
+    by : (b : Bool) → is_for guid r ≡ b → is_for guid (if b then record r { pending = pended n r.pending } else r) ≡ true → list_any (λ h. h == n) (if b then record r { pending = pended n r.pending } else r).pending ≡ true
+    by true e h = pended_is n r.pending
+    by false e h = absurd (cc)
+
+pending_all : (guid : Guid) (n : ℕ) (rs : List Registration) → All (λ (r : Registration). is_for guid r ≡ true → list_any (λ h. h == n) r.pending ≡ true) (all_told rs guid n)
+unfolding all_told
+pending_all guid n [] = All-nil (λ (r : Registration). is_for guid r ≡ true → list_any (λ h. h == n) r.pending ≡ true)
+pending_all guid n (r ∷ rs) = All-cons (λ (r : Registration). is_for guid r ≡ true → list_any (λ h. h == n) r.pending ≡ true) (told guid n r) (map (told guid n) rs) (pending_one guid n r) (pending_all guid n rs)
+
+-- what goes
+uninstalled_by : (p new : Protocols) (n : ℕ) (guid : Guid) (interface : ℕ) (o : Result Database HandleRefusal) → removal p.handles n guid interface ≡ o → uninstalled p n guid o ≡ Ok new → IsWithdrawn new n guid
+uninstalled_by p new n guid interface (Err refusal) e h = absurd (cc)
+uninstalled_by p new n guid interface (Ok d) e h = by (is_held p.handles n guid) h
+  where
+    by : (b : Bool) → (if b then Err AccessDenied else Ok (withdrawn p d n guid)) ≡ Ok new → IsWithdrawn new n guid
+    by true k = absurd (cc)
+    by false k = let is : withdrawn p d n guid ≡ new = cc in subst (λ (q : Protocols). IsWithdrawn q n guid) is (record { gone = removed_is_gone p.handles d n guid interface e; silent = silent_all guid n p.registrations })
+
+pub uninstalled_is_withdrawn : UninstalledIsWithdrawn
+unfolding uninstallation
+uninstalled_is_withdrawn p new n guid interface e = uninstalled_by p new n guid interface (removal p.handles n guid interface) refl e
+
+pub dropped_is_withdrawn : DroppedIsWithdrawn
+unfolding dropped
+dropped_is_withdrawn p n guid there = rw there (record { gone = discarded_is_gone p.handles n guid; silent = silent_all guid n p.registrations })
+
+-- what comes
+reinstalled_by : (p : Protocols) (done : Done Installation) (n : ℕ) (guid : Guid) (old new : ℕ) (o : Result Database HandleRefusal) → replacement p.handles n guid old new ≡ o → reinstalled p n guid o ≡ Ok done → pair_in done.after.handles n guid ≡ Some (fresh guid new)
+reinstalled_by p done n guid old new (Err refusal) e h = absurd (cc)
+reinstalled_by p done n guid old new (Ok d) e h = by (is_held p.handles n guid) h
+  where
+    by : (b : Bool) → (if b then Err AccessDenied else Ok (announced p d n guid)) ≡ Ok done → pair_in done.after.handles n guid ≡ Some (fresh guid new)
+    by true k = absurd (cc)
+    by false k = let is : announced p d n guid ≡ done = cc in subst (λ (it : Done Installation). pair_in it.after.handles n guid ≡ Some (fresh guid new)) is (replaced_is_fresh p.handles d n guid old new e)
+
+pub reinstalled_is_fresh : ReinstalledIsFresh
+unfolding reinstallation
+reinstalled_is_fresh p done n guid old new e = reinstalled_by p done n guid old new (replacement p.handles n guid old new) refl e
+
+installed_by : (p : Protocols) (done : Done Installation) (guid : Guid) (o : Result HandleDone HandleRefusal) → installed p guid o ≡ Ok done → All (λ (r : Registration). is_for guid r ≡ true → list_any (λ h. h == done.answer.handle) r.pending ≡ true) done.after.registrations
+installed_by p done guid (Err refusal) h = absurd (cc)
+installed_by p done guid (Ok it) h =
+    let is : announced p it.database it.handle guid ≡ done = cc in
+    subst (λ (q : Done Installation). All (λ (r : Registration). is_for guid r ≡ true → list_any (λ h. h == q.answer.handle) r.pending ≡ true) q.after.registrations) is (pending_all guid it.handle p.registrations)
+
+pub installed_is_pending : InstalledIsPending
+unfolding installation
+installed_is_pending p done number guid interface e = installed_by p done guid (handle_installation p.handles number guid interface) e

@@ -1,0 +1,25 @@
+//! What the definitions come to. Each law is the contract of a function that does nothing. That a handle is pending at
+//! most once for a registration, `Protocols::whole` says of every state.
+#![tactic(auto)]
+
+ghost use Rattle.protocol_db.specs.Laws.{UninstalledIsWithdrawn, DroppedIsWithdrawn, ReinstalledIsFresh, InstalledIsPending};
+
+/// A protocol that was uninstalled is gone with its opens, and its handle is pending for no registration of it.
+pub fn uninstalled_is_withdrawn()
+    ensures { UninstalledIsWithdrawn }
+{}
+
+/// So is one that was discarded.
+pub fn dropped_is_withdrawn()
+    ensures { DroppedIsWithdrawn }
+{}
+
+/// A protocol that was reinstalled is there, and nobody has opened it.
+pub fn reinstalled_is_fresh()
+    ensures { ReinstalledIsFresh }
+{}
+
+/// The handle on which a protocol was installed is pending for each registration of it.
+pub fn installed_is_pending()
+    ensures { InstalledIsPending }
+{}
