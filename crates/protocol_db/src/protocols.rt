@@ -5,7 +5,7 @@ ghost use Rattle.std.specs.Prelude.{◌≡◌, ◌&&◌, [], Ok, IfOk, IfErr, Ma
 ghost use Rattle.std.specs.List.{find, list_any};
 ghost use Rattle.std.specs.Option.{option_copied};
 ghost use Rattle.handle_db.specs.Calls.{has_pair_in};
-ghost use Rattle.handle_db.specs.Database.{interface_in, opens_in};
+ghost use Rattle.handle_db.specs.Database.{opens_in};
 ghost use Rattle.protocol_db.specs.Registrations.{events_for, all_told, none_told, is_for, is_numbered, first_pending, first_taken};
 ghost use Rattle.protocol_db.specs.Opening.{is_askable, opening, is_held};
 ghost use Rattle.protocol_db.specs.Calls.{target_in, may_close, has_between, installation, uninstallation, reinstallation, protocol_opening, closing, information, registration, forgotten, dropped, Gives, ChangeGives, Refuses};
@@ -144,13 +144,6 @@ impl Protocols {
             }
             Err(refusal) => Err(refused(refusal)),
         }
-    }
-
-    /// The interface of a handle by a GUID. None for an unknown handle, and where it hasn't the protocol.
-    pub fn interface(&self, handle: u64, guid: &Guid) -> Option<u64>
-        ensures { result ≡ interface_in self.now.handles handle guid.now }
-    {
-        self.handles.interface(handle, guid)
     }
 
     /// Whether an entry keeps a protocol of a handle from being taken away.
