@@ -1,3 +1,4 @@
 pub mod WholeLemmas
 pub mod CallLemmas
 pub mod LawLemmas
+pub mod AloneLemmas

@@ -1,11 +1,14 @@
 -- What the definitions come to.
-use Rattle.std.specs.Prelude.{ℕ, ◌≡◌, ◌==◌, true, false, Option, Some, None, Ok}
-use Rattle.std.specs.List.{All, list_any}
+use Rattle.std.specs.Prelude.{ℕ, ◌≡◌, ◌==◌, ◌&&◌, true, false, List, [], Option, Some, None, Ok}
+use Rattle.std.specs.List.{All, AllPairs, list_any}
 use Rattle.std.specs.Option.{is_some}
 use Rattle.uh_base.specs.declared.guid.Guid.{Guid}
-use Rattle.handle_db.specs.Database.{pair_in, fresh}
+use Rattle.handle_db.specs.Database.{Pair, Handle, Database, pair_in, fresh}
+use Rattle.handle_db.specs.declared.entry.OpenEntry.{OpenEntry}
+use Rattle.protocol_db.specs.declared.request.OpenRequest.{OpenRequest}
+use Rattle.protocol_db.specs.Opening.{is_alone}
 use Rattle.protocol_db.specs.Registrations.{Registration, Protocols, is_for}
-use Rattle.protocol_db.specs.Calls.{Done, Installation, installation, uninstallation, reinstallation, dropped}
+use Rattle.protocol_db.specs.Calls.{Done, Installation, installation, uninstallation, reinstallation, protocol_opening, closing, dropped}
 
 -- A handle hasn't a protocol, and so no opens of it, and is pending for no registration of it.
 pub record IsWithdrawn (p : Protocols) (number : ℕ) (guid : Guid) : Type 0 where
@@ -28,3 +31,21 @@ ReinstalledIsFresh = (p : Protocols) (done : Done Installation) (number : ℕ) (
 abbrev pub InstalledIsPending : Type 0
 InstalledIsPending = (p : Protocols) (done : Done Installation) (number : Option ℕ) (guid : Guid) (interface : ℕ) → installation p number guid interface ≡ Ok done
     → All (λ (r : Registration). is_for guid r ≡ true → list_any (λ h. h == done.answer.handle) r.pending ≡ true) done.after.registrations
+
+-- At most one entry is by a driver or exclusive.
+abbrev pub IsOneAlone : List OpenEntry → Type 0
+IsOneAlone opens = AllPairs (λ (a b : OpenEntry). (is_alone a.attributes && is_alone b.attributes) ≡ false) opens
+
+-- That is so of each protocol of each handle.
+abbrev pub AreAlone : Database → Type 0
+AreAlone d = All (λ (h : Handle). All (λ (q : Pair). IsOneAlone q.opens) h.pairs) d.live
+
+-- It is so at first, and each call that changes the handles leaves it so.
+pub record OneAloneStays : Type 0 where
+  pub first : AreAlone (record { live = []; made = 0 })
+  pub install : (p : Protocols) (done : Done Installation) (number : Option ℕ) (guid : Guid) (interface : ℕ) → AreAlone p.handles → installation p number guid interface ≡ Ok done → AreAlone done.after.handles
+  pub reinstall : (p : Protocols) (done : Done Installation) (number : ℕ) (guid : Guid) (old new : ℕ) → AreAlone p.handles → reinstallation p number guid old new ≡ Ok done → AreAlone done.after.handles
+  pub uninstall : (p new : Protocols) (number : ℕ) (guid : Guid) (interface : ℕ) → AreAlone p.handles → uninstallation p number guid interface ≡ Ok new → AreAlone new.handles
+  pub opens : (p : Protocols) (done : Done ℕ) (r : OpenRequest) → AreAlone p.handles → protocol_opening p r ≡ Ok done → AreAlone done.after.handles
+  pub close : (p new : Protocols) (number : ℕ) (guid : Guid) (agent controller : ℕ) → AreAlone p.handles → closing p number guid agent controller ≡ Ok new → AreAlone new.handles
+  pub discard : (p : Protocols) (number : ℕ) (guid : Guid) → AreAlone p.handles → AreAlone (dropped p number guid).handles

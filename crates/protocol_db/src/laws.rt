@@ -2,7 +2,7 @@
 //! most once for a registration, `Protocols::whole` says of every state.
 #![tactic(auto)]
 
-ghost use Rattle.protocol_db.specs.Laws.{UninstalledIsWithdrawn, DroppedIsWithdrawn, ReinstalledIsFresh, InstalledIsPending};
+ghost use Rattle.protocol_db.specs.Laws.{UninstalledIsWithdrawn, DroppedIsWithdrawn, ReinstalledIsFresh, InstalledIsPending, OneAloneStays};
 
 /// A protocol that was uninstalled is gone with its opens, and its handle is pending for no registration of it.
 pub fn uninstalled_is_withdrawn()
@@ -22,4 +22,9 @@ pub fn reinstalled_is_fresh()
 /// The handle on which a protocol was installed is pending for each registration of it.
 pub fn installed_is_pending()
     ensures { InstalledIsPending }
+{}
+
+/// At most one entry of a protocol is by a driver or exclusive: at first, and after each call.
+pub fn one_alone_stays()
+    ensures { OneAloneStays }
 {}

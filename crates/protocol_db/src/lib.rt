@@ -14,7 +14,8 @@ mod tests;
 pub use handle_db::OpenEntry;
 pub use installed::Installed;
 pub use laws::{
-    dropped_is_withdrawn, installed_is_pending, reinstalled_is_fresh, uninstalled_is_withdrawn,
+    dropped_is_withdrawn, installed_is_pending, one_alone_stays, reinstalled_is_fresh,
+    uninstalled_is_withdrawn,
 };
 pub use protocols::Protocols;
 pub use refusal::ProtocolRefusal;
