@@ -7,4 +7,3 @@ pub mod JobLemmas
 pub mod StepLemmas
 pub mod InputLemmas
 pub mod FilesLemmas
-pub mod CompleteLemmas

@@ -1,3 +1,4 @@
+pub mod Limits
 pub mod FlatMemories
 pub mod FlatRuns
 pub mod Lines
@@ -11,4 +12,7 @@ pub mod ScriptRuns
 pub mod Refusals
 pub mod Inputs
 pub mod InputGives
-pub mod RunGives
+pub mod Assemblies
+pub mod BuildGives
+pub mod Prints
+pub mod ScriptGives

@@ -11,6 +11,7 @@ use Rattle.firmware_core.specs.declared.machine.LoadedImage.{LoadedImage}
 use Rattle.firmware_core.specs.Machines.{State}
 use Rattle.firmware_core.specs.Loads.{load_of, begun, ended}
 use Rattle.firmware_core.specs.Opening.{opened}
+use Rattle.host_engine.specs.Limits.{code_limit}
 use Rattle.host_engine.specs.declared.job.JobEnd.{JobEnd}
 use Rattle.host_engine.specs.declared.job.JobEnd.TheVariants.{Returned, Halted}
 use Rattle.host_engine.specs.declared.script_run.Input.{Input}
@@ -49,7 +50,7 @@ loaded name r (Err status) = record { lines = lines.Load name status 0 0 ∷ [];
 -- a file has at most 4 MiB
 abbrev pub file_loaded : State → Option (List ℕ) → Result State ℕ
 file_loaded machine None = Err not_found
-file_loaded machine (Some file) = if nat_le (length file) 0x400000 then load_of machine file else Err load_error
+file_loaded machine (Some file) = if nat_le (length file) code_limit then load_of machine file else Err load_error
 
 unfoldable pub load_step : List Input → List ℕ → Running → Stepped
 load_step inputs name r = loaded name r (file_loaded r.machine (file_of inputs name))
@@ -113,13 +114,13 @@ unfoldable pub run_from : List Input → Running → List Step → Run
 run_from inputs r [] = record { lines = lines.End ∷ []; halted = false }
 run_from inputs r (step ∷ steps) = then_run (step_of inputs step r) (run_from inputs (step_of inputs step r).running steps)
 
--- 4,096 pages of RAM from 0x40000000 on, and no image loaded
-abbrev pub at_opening : Running
-at_opening = record { machine = opened 0x40000000 4096; name = [] }
+-- 4,096 pages of RAM from an address on, and no image loaded
+abbrev pub at_opening : ℕ → Running
+at_opening ram_base = record { machine = opened ram_base 4096; name = [] }
 
 -- the run of the steps of a script over the files of its images
-unfoldable pub run_of : List Input → List Step → Run
-run_of inputs steps = run_from inputs at_opening steps
+unfoldable pub run_of : ℕ → List Input → List Step → Run
+run_of ram_base inputs steps = run_from inputs (at_opening ram_base) steps
 
 -- A step was made so, with its lines put.
 pub record Made (whole : Stepped) (halted : Bool) (running : Running) (old new : Option (List ℕ)) : Type 0 where

@@ -3,17 +3,16 @@ use Rattle.rv_step.specs.Exec.{State}
 use Rattle.host_engine.specs.declared.command.Command as code
 use Rattle.host_engine.specs.declared.command.Command.TheVariants as commands
 use Rattle.host_engine.specs.declared.flat_run.FlatEnd.{FlatEnd}
-use Rattle.host_engine.specs.declared.status.Status.{Status}
-use Rattle.host_engine.specs.declared.status.Status.TheVariants.{Done, Halted, Words, Script, Read, Size, Write, Memory}
 use Rattle.host_engine.specs.declared.flat_run.FlatCause.{FlatCause}
 use Rattle.host_engine.specs.declared.flat_run.FlatCause.TheVariants as causes
 use Rattle.host_engine.specs.FlatRuns.{Cause, Bound, Trapped, End}
-use Rattle.host_engine.specs.Words.{Command, Help, Version, Flat, Run}
+use Rattle.host_engine.specs.Words.{Command, Help, Version, Flat, Build, Run}
 
 abbrev pub asked : code.Command → Command
 asked commands.Help = Help
 asked commands.Version = Version
 asked (commands.Flat name bound) = Flat name.now bound
+asked (commands.Build name) = Build name.now
 asked (commands.Run script) = Run script.now
 
 abbrev pub cause_of : FlatCause → Cause
@@ -23,14 +22,3 @@ cause_of (causes.Trap trap) = Trapped trap
 -- the end of a run that left this state
 abbrev pub end_of : FlatEnd → State → End
 end_of end state = record { cause = cause_of end.cause; state = state; steps = end.steps }
-
--- the answer of a run
-abbrev pub IsEnding : Status → Type 0
-IsEnding Done = Unit {0}
-IsEnding Halted = Unit {0}
-IsEnding Words = ⊥
-IsEnding Script = ⊥
-IsEnding Read = ⊥
-IsEnding Size = ⊥
-IsEnding Write = ⊥
-IsEnding Memory = ⊥

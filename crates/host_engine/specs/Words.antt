@@ -8,6 +8,7 @@ pub data Command : Type 0 where
   Help : Command
   Version : Command
   Flat : (name : List ℕ) (bound : ℕ) → Command
+  Build : (name : List ℕ) → Command
   Run : (script : List ℕ) → Command
 
 -- a word that stands alone
@@ -22,9 +23,15 @@ flat_with name (Some n) = if nat_le 1 n && nat_le n 50000000 then Some (Flat nam
 abbrev pub word : List (List ℕ) → ℕ → List ℕ
 word words i = slice_index_or words i []
 
--- `--help`, `--version`, `run SCRIPT` or `flat FILE BOUND`; no other words have a form
+-- a command that has one word more
+abbrev pub named : List ℕ → List ℕ → Option Command
+named command name =
+    if bytes_eq command (codes "run") then Some (Run name)
+    else (if bytes_eq command (codes "build") then Some (Build name) else None)
+
+-- `--help`, `--version`, `run SCRIPT`, `build FILE` or `flat FILE BOUND`; no other words have a form
 unfoldable pub command_of : List (List ℕ) → Option Command
 command_of words =
     if length words == 1 then alone (word words 0)
-    else (if length words == 2 && bytes_eq (word words 0) (codes "run") then Some (Run (word words 1))
+    else (if length words == 2 then named (word words 0) (word words 1)
     else (if length words == 3 && bytes_eq (word words 0) (codes "flat") then flat_with (word words 1) (decimal_number (word words 2)) else None))

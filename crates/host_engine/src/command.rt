@@ -3,7 +3,7 @@
 
 ghost use Rattle.std.specs.Prelude.{◌≡◌, ◌<◌, map, length, string_bytes};
 ghost use Rattle.std.specs.Option.{option_map};
-ghost use Rattle.host_engine.specs.Words.{word, command_of, alone};
+ghost use Rattle.host_engine.specs.Words.{word, command_of, alone, named};
 ghost use Rattle.host_engine.specs.Views.{asked};
 
 use uh_base::decimal_number;
@@ -17,6 +17,8 @@ pub enum Command<'a> {
     Version,
     /// A run of a file's bytes, of at most `bound` steps.
     Flat { name: &'a str, bound: u64 },
+    /// The image of an assembly text's file.
+    Build { name: &'a str },
     /// The run of a script's file.
     Run { script: &'a str },
 }
@@ -41,6 +43,19 @@ fn alone(word: &str) -> Option<Command<'_>>
     }
 }
 
+/// What a command with one word more asks for.
+fn named<'a>(command: &str, name: &'a str) -> Option<Command<'a>>
+    ensures { option_map asked result ≡ named command.now name.now }
+{
+    if command == "run" {
+        Some(Command::Run { script: name })
+    } else if command == "build" {
+        Some(Command::Build { name })
+    } else {
+        None
+    }
+}
+
 /// What the words ask for, if they have a form.
 #[tactic(auto, unfolding(crate::specs::Words::command_of))]
 pub fn read_words(words: &[String]) -> Option<Command<'_>>
@@ -49,10 +64,8 @@ pub fn read_words(words: &[String]) -> Option<Command<'_>>
     if words.len() == 1 {
         return alone(word_at(words, 0));
     }
-    if words.len() == 2 && word_at(words, 0) == "run" {
-        return Some(Command::Run {
-            script: word_at(words, 1),
-        });
+    if words.len() == 2 {
+        return named(word_at(words, 0), word_at(words, 1));
     }
     if words.len() != 3 || word_at(words, 0) != "flat" {
         return None;

@@ -3,38 +3,37 @@
 
 ghost use Rattle.std.specs.Prelude.{◌≡◌, ◌≤◌, length, IfOk};
 ghost use Rattle.host_engine.specs.FlatRuns.{flat_end};
+ghost use Rattle.host_engine.specs.Gives.{CommandGives};
+ghost use Rattle.host_engine.specs.Limits.{code_limit};
 ghost use Rattle.host_engine.specs.Lines.{flat_text};
 ghost use Rattle.host_engine.specs.Outside.{outside};
-ghost use Rattle.host_engine.specs.Gives.{file_limit, ending_of, FlatGives};
-ghost use Rattle.host_engine.specs.Views.{cause_of, IsEnding};
+ghost use Rattle.host_engine.specs.Prints.{halts};
+ghost use Rattle.host_engine.specs.Views.{cause_of};
+ghost use Rattle.host_engine.specs.Words.{Flat};
 
 use crate::flat_line::line;
 use crate::flat_memory::{BASE, FlatMemory};
 use crate::flat_run::{FlatCause, run};
-use crate::status::Status;
+use crate::limits::CODE_LIMIT;
+use crate::refusal::{Refusal, read_file};
 use rv_step::{Regs, Trap};
 use std::alloc::{AllocError, Global};
-use uh_base::{FileEnd, Files, Sink};
+use uh_base::{Files, Sink};
 
-/// The most bytes that a file of code has.
-pub const FILE_LIMIT: usize = 0x40_0000;
-
-/// The answer for a run that ended so.
-fn ending_of(cause: FlatCause) -> Status
-    ensures status { result ≡ ending_of (cause_of cause) }
-    ensures ending { IsEnding result }
+/// Whether a run that ended so is halted.
+fn halts(cause: FlatCause) -> bool
+    ensures { result ≡ halts (cause_of cause) }
 {
     match cause {
-        FlatCause::Trap(Trap::Ebreak) => Status::Done,
-        _ => Status::Halted,
+        FlatCause::Trap(Trap::Ebreak) => false,
+        _ => true,
     }
 }
 
-/// How the run of a file's bytes ends, and its text.
-fn run_file(alloc: Global, file: &[u8], bound: u64) -> Result<(Status, Vec<u8>), AllocError>
-    requires { length file.now ≤ file_limit }
-    ensures status { IfOk result (λ ran. ran.0 ≡ ending_of (flat_end file.now bound).cause) }
-    ensures ending { IfOk result (λ ran. IsEnding ran.0) }
+/// The run of a file's bytes: whether it is halted, and its text.
+fn run_file(alloc: Global, file: &[u8], bound: u64) -> Result<(bool, Vec<u8>), AllocError>
+    requires { length file.now ≤ code_limit }
+    ensures halted { IfOk result (λ ran. ran.0 ≡ halts (flat_end file.now bound).cause) }
     ensures text { IfOk result (λ ran. ran.1.items ≡ flat_text file.now bound) }
 {
     let mut memory = FlatMemory::with_file(alloc, file)?;
@@ -43,32 +42,31 @@ fn run_file(alloc: Global, file: &[u8], bound: u64) -> Result<(Status, Vec<u8>),
         pc: BASE,
     };
     let end = run(&mut regs, &mut memory, bound);
-    Ok((ending_of(end.cause), line(alloc, end, &regs)?))
+    Ok((halts(end.cause), line(alloc, end, &regs)?))
 }
 
-/// Reads a file, runs its bytes and puts the line of the run.
+/// Reads a file, runs its bytes and puts the line of the run; true where the run is halted.
 pub fn flat<F: Files, O: Sink>(
     alloc: Global,
     name: &str,
     bound: u64,
     files: &mut F,
     out: &mut O,
-) -> Status
-    ensures { FlatGives name.now bound result
+) -> Result<bool, Refusal>
+    ensures { CommandGives (Flat name.now bound) result
         (outside (F.told files.old) (F.faults files.old) (F.longs files.old) (O.written out.old) (O.faults out.old))
         (outside (F.told files.new) (F.faults files.new) (F.longs files.new) (O.written out.new) (O.faults out.new)) }
 {
-    let file = match files.read(alloc, name, FILE_LIMIT) {
+    let file = match read_file(alloc, name, CODE_LIMIT, files) {
         Ok(file) => file,
-        Err(FileEnd::Failed) => return Status::Read,
-        Err(FileEnd::TooLong) => return Status::Size,
-        Err(FileEnd::Memory) => return Status::Memory,
+        Err(refusal) => return Err(refusal),
     };
-    match run_file(alloc, file.as_slice(), bound) {
-        Ok((status, text)) => match out.put(text.as_slice()) {
-            Ok(()) => status,
-            Err(_) => Status::Write,
-        },
-        Err(_) => Status::Memory,
+    let (halted, text) = match run_file(alloc, file.as_slice(), bound) {
+        Ok(ran) => ran,
+        Err(_) => return Err(Refusal::Memory),
+    };
+    match out.put(text.as_slice()) {
+        Ok(()) => Ok(halted),
+        Err(_) => Err(Refusal::Write),
     }
 }

@@ -4,13 +4,15 @@
 ghost use Rattle.std.specs.Prelude.{◌≡◌, map, string_bytes};
 ghost use Rattle.host_engine.specs.Outside.{outside};
 ghost use Rattle.host_engine.specs.Texts.{help_text, version_text};
-ghost use Rattle.host_engine.specs.Gives.{TextGives, CommandGives, HostGives, IsComplete, CommandSays, name_in};
+ghost use Rattle.host_engine.specs.Gives.{CommandGives, text_in, HostGives, IsComplete};
 ghost use Rattle.host_engine.specs.Views.{asked};
-ghost use Rattle.host_engine.specs.Words.{command_of};
+ghost use Rattle.host_engine.specs.Words.{Help, Version, command_of};
 
+use crate::build::build;
 use crate::command::{Command, read_words};
 use crate::flat::flat;
 use crate::message::explain;
+use crate::refusal::Refusal;
 use crate::run::run;
 use crate::status::Status;
 use std::alloc::Global;
@@ -20,69 +22,78 @@ use uh_base::{Files, Sink};
 const HELP: &str = "uefihost: runs RISC-V code and prints what it came to
 
 uefihost run SCRIPT        run the steps of a script
+uefihost build FILE        assemble the text of FILE and write the image
 uefihost flat FILE BOUND   put FILE at 0x40000000 and make at most BOUND steps
 uefihost --help            print this text
 uefihost --version         print the version
 
 SCRIPT is a TOML document of at most 1048576 bytes that names images and steps.
-FILE is at most 4194304 bytes of RV64IMC code, BOUND a number from 1 to 50000000.
+FILE is at most 4194304 bytes of RV64IMC code, or of assembly text for build. BOUND is a
+number from 1 to 50000000.
 The line of flat is: flat CAUSE PC STEPS A0, with PC and A0 in hexadecimal. CAUSE is ebreak,
 ecall, illegal, load, store, fetch or bound.
 Status: 0 ebreak or end, 1 another cause or a halt, 2 usage, 3 the script is refused,
-4 a file can't be read, 5 the output fails, 6 no memory, 7 a file is too long.
+4 a file can't be read, 5 the output fails, 6 no memory, 7 a file is too long, 8 a text isn't assembled.
 ";
 
 /// The program's name and version.
 const VERSION: &str = "uefihost 0.1.0\n";
 
-/// Puts a fixed text.
-fn put_text<O: Sink>(text: &str, out: &mut O) -> Status
-    ensures { TextGives text.now result (O.written out.old) (O.faults out.old) (O.written out.new) (O.faults out.new) }
+/// Puts the text that explains the program.
+fn help<F: Files, O: Sink>(files: &F, out: &mut O) -> Result<bool, Refusal>
+    ensures { CommandGives Help result
+        (outside (F.told files.now) (F.faults files.now) (F.longs files.now) (O.written out.old) (O.faults out.old))
+        (outside (F.told files.now) (F.faults files.now) (F.longs files.now) (O.written out.new) (O.faults out.new)) }
 {
-    match out.put(text.as_bytes()) {
-        Ok(()) => Status::Done,
-        Err(_) => Status::Write,
+    match out.put(HELP.as_bytes()) {
+        Ok(()) => Ok(false),
+        Err(_) => Err(Refusal::Write),
     }
 }
 
-/// The name of the file that a command reads.
-fn name_of<'a>(command: Command<'a>) -> &'a str
-    ensures { result.now ≡ name_in (Some (asked command.entry)) }
+/// Puts the program's name and version.
+fn version<F: Files, O: Sink>(files: &F, out: &mut O) -> Result<bool, Refusal>
+    ensures { CommandGives Version result
+        (outside (F.told files.now) (F.faults files.now) (F.longs files.now) (O.written out.old) (O.faults out.old))
+        (outside (F.told files.now) (F.faults files.now) (F.longs files.now) (O.written out.new) (O.faults out.new)) }
 {
-    match command {
-        Command::Help | Command::Version => "",
-        Command::Flat { name, bound: _ } => name,
-        Command::Run { script } => script,
+    match out.put(VERSION.as_bytes()) {
+        Ok(()) => Ok(false),
+        Err(_) => Err(Refusal::Write),
     }
 }
 
-/// Does what is asked.
-fn obey<F: Files, O: Sink, E: Sink>(
+/// Does what is asked; true where a run is halted.
+fn obey<F: Files, O: Sink>(
     alloc: Global,
     command: Command<'_>,
     files: &mut F,
     out: &mut O,
-    err: &mut E,
-) -> Status
-    ensures out { CommandGives (asked command.entry) result
+) -> Result<bool, Refusal>
+    ensures { CommandGives (asked command.entry) result
         (outside (F.told files.old) (F.faults files.old) (F.longs files.old) (O.written out.old) (O.faults out.old))
         (outside (F.told files.new) (F.faults files.new) (F.longs files.new) (O.written out.new) (O.faults out.new)) }
-    ensures complete { IsComplete (Some (asked command.entry)) result
-        (outside (F.told files.old) (F.faults files.old) (F.longs files.old) (O.written out.old) (O.faults out.old))
-        (outside (F.told files.new) (F.faults files.new) (F.longs files.new) (O.written out.new) (O.faults out.new)) }
-    ensures err { CommandSays (Some (asked command.entry)) result
-        (outside (F.told files.old) (F.faults files.old) (F.longs files.old) (O.written out.old) (O.faults out.old))
-        (outside (F.told files.new) (F.faults files.new) (F.longs files.new) (O.written out.new) (O.faults out.new))
-        (E.written err.old) (E.faults err.old) (E.written err.new) (E.faults err.new) }
 {
-    let status = match command {
-        Command::Help => put_text(HELP, out),
-        Command::Version => put_text(VERSION, out),
+    match command {
+        Command::Help => help(files, out),
+        Command::Version => version(files, out),
         Command::Flat { name, bound } => flat(alloc, name, bound, files, out),
-        Command::Run { script } => return run(alloc, script, files, out, err),
-    };
-    explain(err, status, name_of(command));
-    status
+        Command::Build { name } => build(alloc, name, files, out),
+        Command::Run { script } => run(alloc, script, files, out),
+    }
+}
+
+/// The name of a file or the fault in an answer.
+fn text_in(answer: &Result<bool, Refusal>) -> &str
+    ensures { result.now ≡ text_in answer.now }
+{
+    match answer {
+        Err(Refusal::Read(name)) => name.as_str(),
+        Err(Refusal::Size(name)) => name.as_str(),
+        Err(Refusal::Script(text)) => text.as_str(),
+        Err(Refusal::Assembly(text)) => text.as_str(),
+        _ => "",
+    }
 }
 
 /// Does what the words behind the program's name ask for, and answers how it ended.
@@ -96,22 +107,23 @@ pub fn host_main<F: Files, O: Sink, E: Sink>(
     out: &mut O,
     err: &mut E,
 ) -> Status
-    ensures out { HostGives (command_of (map string_bytes words.now)) result
-        (outside (F.told files.old) (F.faults files.old) (F.longs files.old) (O.written out.old) (O.faults out.old))
-        (outside (F.told files.new) (F.faults files.new) (F.longs files.new) (O.written out.new) (O.faults out.new)) }
-    ensures complete { IsComplete (command_of (map string_bytes words.now)) result
-        (outside (F.told files.old) (F.faults files.old) (F.longs files.old) (O.written out.old) (O.faults out.old))
-        (outside (F.told files.new) (F.faults files.new) (F.longs files.new) (O.written out.new) (O.faults out.new)) }
-    ensures err { CommandSays (command_of (map string_bytes words.now)) result
+    ensures gives { HostGives (command_of (map string_bytes words.now)) result
         (outside (F.told files.old) (F.faults files.old) (F.longs files.old) (O.written out.old) (O.faults out.old))
         (outside (F.told files.new) (F.faults files.new) (F.longs files.new) (O.written out.new) (O.faults out.new))
         (E.written err.old) (E.faults err.old) (E.written err.new) (E.faults err.new) }
+    ensures complete { IsComplete (command_of (map string_bytes words.now)) result
+        (outside (F.told files.old) (F.faults files.old) (F.longs files.old) (O.written out.old) (O.faults out.old))
+        (outside (F.told files.new) (F.faults files.new) (F.longs files.new) (O.written out.new) (O.faults out.new)) }
 {
-    match read_words(words) {
-        Some(command) => obey(alloc, command, files, out, err),
+    let command = match read_words(words) {
+        Some(command) => command,
         None => {
             explain(err, Status::Words, "");
-            Status::Words
+            return Status::Words;
         }
-    }
+    };
+    let answer = obey(alloc, command, files, out);
+    let status = Status::of(&answer);
+    explain(err, status, text_in(&answer));
+    status
 }

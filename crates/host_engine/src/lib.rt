@@ -1,6 +1,8 @@
 //! The commands of the host, over files and outputs that the caller hands in.
 #![tactic(auto)]
 
+mod assembly;
+mod build;
 mod command;
 mod flat;
 mod flat_line;
@@ -9,6 +11,7 @@ mod flat_run;
 mod host;
 mod inputs;
 mod job;
+mod limits;
 mod message;
 mod refusal;
 mod run;

@@ -41,7 +41,7 @@ fn say<E: Sink>(err: &mut E, reason: &str, name: &str)
     let _ = put_message(err, reason.as_bytes(), name.as_bytes());
 }
 
-/// Says why not all was put, with the name of a file or the script's fault.
+/// Says why not all was put, with the name of a file or a fault.
 pub fn explain<E: Sink>(err: &mut E, status: Status, name: &str)
     ensures { ErrGives status name.now (E.written err.old) (E.faults err.old) (E.written err.new) (E.faults err.new) }
 {
@@ -51,6 +51,7 @@ pub fn explain<E: Sink>(err: &mut E, status: Status, name: &str)
         Status::Script => say(err, "script ", name),
         Status::Read => say(err, "read ", name),
         Status::Size => say(err, "size ", name),
+        Status::Assembly => say(err, "assembly ", name),
         Status::Write => say(err, "write", ""),
         Status::Memory => say(err, "memory", ""),
     }

@@ -1,11 +1,11 @@
-//! Why the text of a run wasn't put whole.
+//! Why the text of a command wasn't put whole.
 ghost use Rattle.std.specs.Prelude.{◌≡◌, ◌≤◌};
 ghost use Rattle.host_engine.specs.Refusals.{FileGives};
 
 use std::alloc::Global;
 use uh_base::{FileEnd, Files, Text};
 
-/// Why the text of a run wasn't put whole. Names are those of files.
+/// Why the text of a command wasn't put whole. Names are those of files.
 #[derive(Drop)]
 pub enum Refusal {
     /// A file couldn't be read.
@@ -14,6 +14,8 @@ pub enum Refusal {
     Size(Text),
     /// The script is refused: at which step and why.
     Script(String),
+    /// An assembly text is refused: of which image or file, at which line and why.
+    Assembly(String),
     /// The output failed.
     Write,
     /// Memory was wanting.

@@ -1,23 +1,20 @@
 //! The command `run SCRIPT`.
 #![tactic(auto)]
 
-ghost use Rattle.std.specs.Prelude.{◌≡◌, ◌≤◌, IfOk, Some, string_bytes};
+ghost use Rattle.std.specs.Prelude.{◌≡◌, ◌≤◌, IfOk, string_bytes};
 ghost use Rattle.host_engine.specs.Outside.{outside};
-ghost use Rattle.host_engine.specs.Gives.{RunAnswers, IsComplete, status_of, text_in};
-ghost use Rattle.host_engine.specs.RunGives.{RunGives, ScriptGives, place_text};
+ghost use Rattle.host_engine.specs.Gives.{CommandGives};
+ghost use Rattle.host_engine.specs.Prints.{place_text};
+ghost use Rattle.host_engine.specs.ScriptGives.{ScriptGives};
 ghost use Rattle.host_engine.specs.Words.{Run};
 
-use crate::inputs::read_inputs;
-use crate::message::explain;
+use crate::inputs::{make_inputs, read_sources};
+use crate::limits::SCRIPT_LIMIT;
 use crate::refusal::{Refusal, read_file};
 use crate::script_run::{Outcome, run_script};
-use crate::status::Status;
-use host_script::{Script, ScriptFault, ScriptKind, read_script};
+use host_script::{Script, ScriptFault, ScriptKind, read_script, scripts_keep_forms};
 use std::alloc::{AllocError, Global};
 use uh_base::{Files, Sink};
-
-/// The most bytes that a script has.
-const SCRIPT_LIMIT: usize = 0x10_0000;
 
 /// Where a script is refused, and why.
 fn place_text(alloc: Global, step: u32, kind: ScriptKind) -> Result<String, AllocError>
@@ -47,14 +44,15 @@ fn script_in<F: Files>(alloc: Global, name: &str, files: &mut F) -> Result<Scrip
     }
 }
 
-/// Reads a script and the files of its images, and runs its steps; true where the run is halted.
-fn run_files<F: Files, O: Sink>(
+/// Runs the script of a file: reads it, reads the files of its images, assembles their texts, and makes its steps; true
+/// where the run is halted.
+pub fn run<F: Files, O: Sink>(
     alloc: Global,
     name: &str,
     files: &mut F,
     out: &mut O,
 ) -> Result<bool, Refusal>
-    ensures { RunGives name.now result
+    ensures { CommandGives (Run name.now) result
         (outside (F.told files.old) (F.faults files.old) (F.longs files.old) (O.written out.old) (O.faults out.old))
         (outside (F.told files.new) (F.faults files.new) (F.longs files.new) (O.written out.new) (O.faults out.new)) }
 {
@@ -62,63 +60,25 @@ fn run_files<F: Files, O: Sink>(
         Ok(script) => script,
         Err(refusal) => return Err(refusal),
     };
-    let inputs = match read_inputs(alloc, script.image.as_slice(), files) {
+    let sources = match read_sources(alloc, script.image.as_slice(), files) {
+        Ok(sources) => sources,
+        Err(refusal) => return Err(refusal),
+    };
+    let inputs = match make_inputs(alloc, sources) {
         Ok(inputs) => inputs,
         Err(refusal) => return Err(refusal),
     };
-    match run_script(alloc, script.step.as_slice(), inputs.as_slice(), out) {
+    scripts_keep_forms();
+    match run_script(
+        alloc,
+        script.ram_base,
+        script.step.as_slice(),
+        inputs.as_slice(),
+        out,
+    ) {
         Outcome::Done => Ok(false),
         Outcome::Halted => Ok(true),
         Outcome::Write => Err(Refusal::Write),
         Outcome::Memory => Err(Refusal::Memory),
     }
-}
-
-/// The status of an answer.
-fn status_of(ran: &Result<bool, Refusal>) -> Status
-    ensures { result ≡ status_of ran.now }
-{
-    match ran {
-        Ok(false) => Status::Done,
-        Ok(true) => Status::Halted,
-        Err(Refusal::Read(_)) => Status::Read,
-        Err(Refusal::Size(_)) => Status::Size,
-        Err(Refusal::Script(_)) => Status::Script,
-        Err(Refusal::Write) => Status::Write,
-        Err(Refusal::Memory) => Status::Memory,
-    }
-}
-
-/// The name of a file or the script's fault in an answer.
-fn text_in(ran: &Result<bool, Refusal>) -> &str
-    ensures { result.now ≡ text_in ran.now }
-{
-    match ran {
-        Err(Refusal::Read(name)) => name.as_str(),
-        Err(Refusal::Size(name)) => name.as_str(),
-        Err(Refusal::Script(text)) => text.as_str(),
-        _ => "",
-    }
-}
-
-/// Runs the script of a file, and says why where its text isn't put whole.
-pub fn run<F: Files, O: Sink, E: Sink>(
-    alloc: Global,
-    name: &str,
-    files: &mut F,
-    out: &mut O,
-    err: &mut E,
-) -> Status
-    ensures answer { RunAnswers name.now result
-        (outside (F.told files.old) (F.faults files.old) (F.longs files.old) (O.written out.old) (O.faults out.old))
-        (outside (F.told files.new) (F.faults files.new) (F.longs files.new) (O.written out.new) (O.faults out.new))
-        (E.written err.old) (E.faults err.old) (E.written err.new) (E.faults err.new) }
-    ensures complete { IsComplete (Some (Run name.now)) result
-        (outside (F.told files.old) (F.faults files.old) (F.longs files.old) (O.written out.old) (O.faults out.old))
-        (outside (F.told files.new) (F.faults files.new) (F.longs files.new) (O.written out.new) (O.faults out.new)) }
-{
-    let ran = run_files(alloc, name, files, out);
-    let status = status_of(&ran);
-    explain(err, status, text_in(&ran));
-    status
 }

@@ -204,3 +204,145 @@ fn files_that_are_not_there_or_too_long_are_named(rt: HostRuntime) -> Result<(),
     );
     Ok(())
 }
+
+/// The text of the image that `HELLO` is the code of.
+const HELLO_TEXT: &[u8] = b"
+start:  ld   a0, 64(a1)
+        la   a1, message
+        ld   t0, 8(a0)
+        addi sp, sp, -16
+        sd   ra, 8(sp)
+        jalr ra, 0(t0)
+        ld   ra, 8(sp)
+        addi sp, sp, 16
+        li   a0, 0
+        ret
+message: .ascii16 \"Hi\"
+";
+
+#[test]
+fn a_text_is_assembled_to_the_image_of_the_file(rt: HostRuntime) -> Result<(), Fail> {
+    let alloc = rt.alloc();
+    let mut files = MemFiles::new(alloc, Vec::new(alloc));
+    files.add(alloc, "hello.s", HELLO_TEXT)?;
+    let mut out = MemSink::new(alloc, 2000, Vec::new(alloc))?;
+    let mut err = MemSink::new(alloc, 200, Vec::new(alloc))?;
+    let mut words = Vec::new(alloc);
+    for word in ["build", "hello.s"].iter() {
+        words.push(String::from_str(alloc, *word)?)?;
+    }
+    let status = host_main(alloc, words.as_slice(), &mut files, &mut out, &mut err);
+    assert_eq!(rt; status, Status::Done);
+    let file = image(alloc, HELLO)?;
+    assert!(rt; out.written() == file.as_slice());
+    Ok(())
+}
+
+#[test]
+fn images_are_made_of_texts(rt: HostRuntime) -> Result<(), Fail> {
+    let alloc = rt.alloc();
+    let rows: [(&[u8], &str); 2] = [
+        // one site of a doubleword, in an image that is moved
+        (
+            b"
+[[image]]
+name = \"m\"
+text = \"\"\"
+.alignment 32
+start: la t0, cell
+ld t0, 0(t0)
+la t1, start
+sub a0, t0, t1
+ret
+.data
+cell: .dword start
+\"\"\"
+[[step]]
+do = \"load\"
+image = \"m\"
+[[step]]
+do = \"start\"
+image = \"m\"
+",
+            "load m 0000000000000000 0000000040fbb000 1\nstart m 0000000000000000 8\nend\n",
+        ),
+        // the address of `start` leaves the range of LUI where RAM begins at 2 GiB
+        (
+            b"ram_base = \"0x80000000\"
+[[image]]
+name = \"x\"
+text = \"\"\"
+.base 0x10000
+start: lui a0, %hi(start)
+ret
+\"\"\"
+[[step]]
+do = \"load\"
+image = \"x\"
+",
+            "load x 8000000000000001 0000000000000000 0\nend\n",
+        ),
+    ];
+    for (script, lines) in rows.iter() {
+        let made = ran(alloc, script, b"", &[])?;
+        expect(&rt, &made, Status::Done, *lines, "");
+    }
+    Ok(())
+}
+
+#[test]
+fn texts_are_judged_in_order_after_all_files(rt: HostRuntime) -> Result<(), Fail> {
+    let alloc = rt.alloc();
+    let rows: [(&[u8], Status, &str); 3] = [
+        (
+            b"
+[[image]]
+name = \"bad\"
+text = \"start: foo\"
+[[image]]
+name = \"none\"
+file = \"none.efi\"
+[[step]]
+do = \"load\"
+image = \"bad\"
+",
+            Status::Read,
+            "uefihost: read none.efi\n",
+        ),
+        (
+            b"
+[[image]]
+name = \"good\"
+text = \"start: ret\"
+[[image]]
+name = \"first\"
+text = \"start: ret\\nstart: ret\"
+[[image]]
+name = \"second\"
+text = \"foo\"
+[[step]]
+do = \"load\"
+image = \"good\"
+",
+            Status::Assembly,
+            "uefihost: assembly first 2 Twice\n",
+        ),
+        (
+            b"
+[[image]]
+name = \"bad\"
+text = \"start: foo\"
+[[step]]
+do = \"load\"
+image = \"good\"
+",
+            Status::Script,
+            "uefihost: script 1 Name\n",
+        ),
+    ];
+    for (script, status, message) in rows.iter() {
+        let refused = ran(alloc, script, b"", &[])?;
+        expect(&rt, &refused, *status, "", *message);
+    }
+    Ok(())
+}

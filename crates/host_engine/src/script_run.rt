@@ -5,11 +5,12 @@ ghost use Rattle.uh_base.specs.Counts.{Rose};
 ghost use Rattle.uh_base.specs.Told.{grown, GrownByPart};
 ghost use Rattle.record_text.specs.declared.line.Line.TheVariants as lines;
 ghost use Rattle.firmware_core.specs.Views.{LoadGives};
+ghost use Rattle.host_script.specs.Script.{is_ram_base};
 ghost use Rattle.host_engine.specs.Jobs.{line_bytes, bytes_of};
 ghost use Rattle.host_engine.specs.ScriptRuns.{file_of, startable, file_loaded, load_step, last_line, left_behind, is_halt, image_run, start_step, step_of, run_of, at_opening, Made, Ran};
 
-use crate::flat::FILE_LIMIT;
 use crate::job::{JobEnd, Stop, put_line, run_job};
+use crate::limits::CODE_LIMIT;
 use firmware_core::{LoadedImage, Machine};
 use host_script::Step;
 use record_text::{Cause, Line};
@@ -56,7 +57,7 @@ fn load_file(
     match file {
         None => Ok(Err(EfiStatus::NOT_FOUND)),
         Some(bytes) => {
-            if bytes.len() > FILE_LIMIT {
+            if bytes.len() > CODE_LIMIT {
                 return Ok(Err(EfiStatus::LOAD_ERROR));
             }
             machine.load(alloc, bytes)
@@ -273,11 +274,12 @@ fn make_step<O: Sink>(
 }
 
 /// The run at opening.
-fn open(alloc: Global) -> Result<Running, AllocError>
-    ensures { IfOk result (λ running. running ≡ at_opening) }
+fn open(alloc: Global, ram_base: u64) -> Result<Running, AllocError>
+    requires { is_ram_base ram_base ≡ true }
+    ensures { IfOk result (λ running. running ≡ at_opening ram_base) }
 {
     Ok(Running {
-        machine: Machine::new(alloc, 0x4000_0000, 4096)?,
+        machine: Machine::new(alloc, ram_base, 4096)?,
         name: Text::new(alloc, "")?,
     })
 }
@@ -285,16 +287,18 @@ fn open(alloc: Global) -> Result<Running, AllocError>
 /// Makes the steps in order and puts their lines; true where the run is halted.
 fn run_steps<O: Sink>(
     alloc: Global,
+    ram_base: u64,
     inputs: &[Input],
     steps: &[Step],
     out: &mut O,
 ) -> Result<bool, Stop>
-    ensures ok { IfOk result (λ halted. Ran (run_of inputs.now steps.now) halted (O.written out.old) (O.written out.new)) }
-    ensures part { OnErr result (GrownByPart (O.written out.old) (bytes_of (run_of inputs.now steps.now).lines) (O.written out.new)) }
+    requires { is_ram_base ram_base ≡ true }
+    ensures ok { IfOk result (λ halted. Ran (run_of ram_base inputs.now steps.now) halted (O.written out.old) (O.written out.new)) }
+    ensures part { OnErr result (GrownByPart (O.written out.old) (bytes_of (run_of ram_base inputs.now steps.now).lines) (O.written out.new)) }
     ensures cause { result ≡ Err Stop.Write → Rose (O.faults out.old) (O.faults out.new) }
     ensures never_falls { O.faults out.old ≤ O.faults out.new }
 {
-    let mut running = match open(alloc) {
+    let mut running = match open(alloc, ram_base) {
         Ok(running) => running,
         Err(_) => return Err(Stop::Memory),
     };
@@ -324,15 +328,22 @@ pub enum Outcome {
     Memory,
 }
 
-/// Runs the steps of a script over the files of its images, from the machine at opening, and puts each line as it
-/// comes, in one put each.
-pub fn run_script<O: Sink>(alloc: Global, steps: &[Step], inputs: &[Input], out: &mut O) -> Outcome
-    ensures done { result ≡ Outcome.Done → Ran (run_of inputs.now steps.now) false (O.written out.old) (O.written out.new) }
-    ensures halted { result ≡ Outcome.Halted → Ran (run_of inputs.now steps.now) true (O.written out.old) (O.written out.new) }
-    ensures part { GrownByPart (O.written out.old) (bytes_of (run_of inputs.now steps.now).lines) (O.written out.new) }
+/// Runs the steps of a script over the files of its images, from the machine at opening over 4,096 pages of
+/// RAM, and puts each line as it comes, in one put each.
+pub fn run_script<O: Sink>(
+    alloc: Global,
+    ram_base: u64,
+    steps: &[Step],
+    inputs: &[Input],
+    out: &mut O,
+) -> Outcome
+    requires { is_ram_base ram_base ≡ true }
+    ensures done { result ≡ Outcome.Done → Ran (run_of ram_base inputs.now steps.now) false (O.written out.old) (O.written out.new) }
+    ensures halted { result ≡ Outcome.Halted → Ran (run_of ram_base inputs.now steps.now) true (O.written out.old) (O.written out.new) }
+    ensures part { GrownByPart (O.written out.old) (bytes_of (run_of ram_base inputs.now steps.now).lines) (O.written out.new) }
     ensures write { result ≡ Outcome.Write → Rose (O.faults out.old) (O.faults out.new) }
 {
-    match run_steps(alloc, inputs, steps, out) {
+    match run_steps(alloc, ram_base, inputs, steps, out) {
         Ok(true) => Outcome::Halted,
         Ok(false) => Outcome::Done,
         Err(Stop::Write) => Outcome::Write,

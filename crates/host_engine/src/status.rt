@@ -2,7 +2,9 @@
 #![tactic(auto)]
 
 ghost use Rattle.std.specs.Prelude.{◌≡◌};
-ghost use Rattle.host_engine.specs.Gives.{code_of};
+ghost use Rattle.host_engine.specs.Gives.{code_of, status_of};
+
+use crate::refusal::Refusal;
 
 /// How a command ended.
 #[derive(Clone, Copy, Debug, PartialEq, Eq, Drop)]
@@ -23,10 +25,28 @@ pub enum Status {
     Write,
     /// Memory was wanting.
     Memory,
+    /// An assembly text is refused.
+    Assembly,
 }
 
 impl Status {
-    /// The exit status of the program, from 0 to 7.
+    /// The status of a command's answer, true where its run is halted.
+    pub(crate) fn of(answer: &Result<bool, Refusal>) -> Status
+        ensures { result ≡ status_of answer.now }
+    {
+        match answer {
+            Ok(false) => Status::Done,
+            Ok(true) => Status::Halted,
+            Err(Refusal::Read(_)) => Status::Read,
+            Err(Refusal::Size(_)) => Status::Size,
+            Err(Refusal::Script(_)) => Status::Script,
+            Err(Refusal::Assembly(_)) => Status::Assembly,
+            Err(Refusal::Write) => Status::Write,
+            Err(Refusal::Memory) => Status::Memory,
+        }
+    }
+
+    /// The exit status of the program, from 0 to 8.
     pub fn code(self) -> u8
         ensures { result ≡ code_of self }
     {
@@ -39,6 +59,7 @@ impl Status {
             Status::Write => 5,
             Status::Memory => 6,
             Status::Size => 7,
+            Status::Assembly => 8,
         }
     }
 }

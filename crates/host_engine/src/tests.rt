@@ -105,7 +105,7 @@ fn flat_prints_cause_pc_steps_and_a0(rt: HostRuntime) -> Result<(), Fail> {
 
 #[test]
 fn other_words_are_refused(rt: HostRuntime) -> Result<(), Fail> {
-    let rows: [&[&str]; 12] = [
+    let rows: [&[&str]; 15] = [
         &[],
         &["flat"],
         &["flat", "F"],
@@ -116,6 +116,9 @@ fn other_words_are_refused(rt: HostRuntime) -> Result<(), Fail> {
         &["flat", "F", "50000001"],
         &["flat", "F", "1", "1"],
         &["Flat", "F", "1"],
+        &["build"],
+        &["build", "F", "1"],
+        &["assemble", "F"],
         &["--help", "F"],
         &["-h"],
     ];
@@ -159,6 +162,40 @@ fn a_refusal_names_its_cause(rt: HostRuntime) -> Result<(), Fail> {
     expect(&rt, &help, Status::Write, "", "uefihost: write\n");
     let version = ran(alloc, &["--version"], b"", NONE)?;
     expect(&rt, &version, Status::Done, "uefihost 0.1.0\n", "");
+    Ok(())
+}
+
+#[test]
+fn build_puts_the_image_of_a_text(rt: HostRuntime) -> Result<(), Fail> {
+    let alloc = rt.alloc();
+    let built = ran(alloc, &["build", "F"], b"start: ret", NONE)?;
+    assert_eq!(rt; built.status, Status::Done);
+    assert!(rt; built.out.written().len() == 1024);
+    assert!(rt; built.out.written().get(512..516) == Some(b"\x67\x80\x00\x00".as_slice()));
+    assert!(rt; built.err.written().is_empty());
+    let rows: [(&[u8], &str); 5] = [
+        (b"start: foo", "uefihost: assembly F 1 Word\n"),
+        (
+            b"# nothing\nstart: li a0\nfoo\n",
+            "uefihost: assembly F 2 Operand\n",
+        ),
+        (b"", "uefihost: assembly F 0 Label\n"),
+        (b"\xff", "uefihost: assembly F 0 Word\n"),
+        (b"start: ret\n\xff", "uefihost: assembly F 0 Word\n"),
+    ];
+    for (file, message) in rows.iter() {
+        let refused = ran(alloc, &["build", "F"], file, NONE)?;
+        expect(&rt, &refused, Status::Assembly, "", *message);
+    }
+    let absent = ran(alloc, &["build", "G"], b"", NONE)?;
+    expect(&rt, &absent, Status::Read, "", "uefihost: read G\n");
+    let unput = ran(
+        alloc,
+        &["build", "F"],
+        b"start: ret",
+        Failing { puts: &[0], ..NONE },
+    )?;
+    expect(&rt, &unput, Status::Write, "", "uefihost: write\n");
     Ok(())
 }
 

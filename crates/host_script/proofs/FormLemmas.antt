@@ -8,8 +8,8 @@ use Rattle.toml.specs.Data.{Data, integer, Items, no_items, item, Members, get_m
 use Rattle.toml.specs.Parse.{parse_document}
 use Rattle.uh_base.specs.Names.{is_name}
 use Rattle.host_script.specs.Faults.{◌>>=◌, Place, placed}
-use Rattle.host_script.specs.Fields.{only_keys, text_field, integer_in, integer_field, tables_field, items_len, counted, needed}
-use Rattle.host_script.specs.Script.{has_image, table_of, Top, not_empty, steps_field, top_of, new_name, origin_of, image_of, image_at, images_of, known_name, step_image, or_million, bound_of, load_of, start_of, step_by, step_of, step_at, steps_of, Plain, with_steps, script_of, of_document, script_in}
+use Rattle.host_script.specs.Fields.{only_keys, text_field, number_field, integer_in, integer_field, tables_field, items_len, counted, needed}
+use Rattle.host_script.specs.Script.{has_image, table_of, Top, not_empty, steps_field, is_ram_base, base_or, ram_base_of, top_of, new_name, origin_of, image_of, image_at, images_of, known_name, step_image, or_million, bound_of, load_of, start_of, step_by, step_of, step_at, steps_of, Plain, with_steps, script_of, of_document, script_in}
 use Rattle.host_script.specs.Forms.{AreImages, IsStep, AreSteps, IsScript, ScriptsKeepForms}
 use Rattle.host_script.specs.declared.fault.ScriptKind.{ScriptKind}
 use Rattle.host_script.specs.declared.fault.ScriptKind.TheVariants as kinds
@@ -102,7 +102,7 @@ image_read : (before : List ImageSpec) (table : Members) (image : ImageSpec) →
 unfolding image_of
 image_read before table image h =
     let named : Result (List ℕ) ScriptKind = needed (text_field (codes "name") table) >>= new_name before in
-    let keys = went (only_keys (codes "name" ∷ codes "file" ∷ []) table) (λ _. named >>= with_name table) image h in
+    let keys = went (only_keys (codes "name" ∷ codes "file" ∷ codes "text" ∷ []) table) (λ _. named >>= with_name table) image h in
     let name = went named (with_name table) image keys.then_ in
     let origin = went (origin_of table) (with_origin name.x table) image name.then_ in
     let text = went (needed (text_field (codes "name") table)) (new_name before) name.x name.first in
@@ -231,6 +231,7 @@ steps_read images before (item content items) steps h =
 -- ---- the whole
 
 record ReadsTop (top : Top) : Type 0 where
+  ram_base : is_ram_base top.ram_base ≡ true
   few_images : items_len top.images ≤ 16
   some_steps : 1 ≤ items_len top.steps
   few_steps : items_len top.steps ≤ 4096
@@ -245,45 +246,59 @@ steps_counted table steps h =
     let same : all.x ≡ steps = few.0 in
     (rw (← same) one.1, few.1)
 
-abbrev with_both : Items → Items → Result Top ScriptKind
-with_both images steps = Ok (record { images = images; steps = steps })
+base_read : (given : Option ℕ) (base : ℕ) → base_or given ≡ Ok base → is_ram_base base ≡ true
+base_read None base h = let same : 0x40000000 ≡ base = cc in subst (λ b. is_ram_base b ≡ true) same refl
+base_read (Some given) base h = by (is_ram_base given) refl h
+  where
+    by : (fits : Bool) → is_ram_base given ≡ fits → (if fits then Ok given else Err kinds.Value) ≡ Ok base → is_ram_base base ≡ true
+    by true fits h = let same : given ≡ base = cc in subst (λ b. is_ram_base b ≡ true) same fits
+    by false fits h = cc
+
+ram_base_read : (table : Members) (base : ℕ) → ram_base_of table ≡ Ok base → is_ram_base base ≡ true
+unfolding ram_base_of
+ram_base_read table base h = let p = went (number_field (codes "ram_base") table) base_or base h in base_read p.x base p.then_
+
+abbrev with_lists : ℕ → Items → Items → Result Top ScriptKind
+with_lists ram_base images steps = Ok (record { ram_base = ram_base; images = images; steps = steps })
 
 top_read : (table : Members) (top : Top) → top_of table ≡ Ok top → ReadsTop top
 unfolding top_of
 top_read table top h =
     let listed : Result Items ScriptKind = tables_field (codes "image") table >>= counted 16 in
-    let keys = went (only_keys (codes "image" ∷ codes "step" ∷ []) table) (λ _. listed >>= λ images. steps_field table >>= with_both images) top h in
-    let images = went listed (λ images. steps_field table >>= with_both images) top keys.then_ in
-    let steps = went (steps_field table) (with_both images.x) top images.then_ in
+    let keys = went (only_keys (codes "ram_base" ∷ codes "image" ∷ codes "step" ∷ []) table) (λ _. ram_base_of table >>= λ base. listed >>= λ images. steps_field table >>= with_lists base images) top h in
+    let base = went (ram_base_of table) (λ base. listed >>= λ images. steps_field table >>= with_lists base images) top keys.then_ in
+    let images = went listed (λ images. steps_field table >>= with_lists base.x images) top base.then_ in
+    let steps = went (steps_field table) (with_lists base.x images.x) top images.then_ in
     let all = went (tables_field (codes "image") table) (counted 16) images.x images.first in
     let few = few_kept 16 all.x images.x all.then_ in
     let count = steps_counted table steps.x steps.first in
-    let made : Top = record { images = images.x; steps = steps.x } in
+    let made : Top = record { ram_base = base.x; images = images.x; steps = steps.x } in
     let same : made ≡ top = cc in
-    subst ReadsTop same (record { few_images = few.1; some_steps = count.0; few_steps = count.1 })
+    subst ReadsTop same (record { ram_base = ram_base_read table base.x base.first; few_images = few.1; some_steps = count.0; few_steps = count.1 })
 
-record WithSteps (images : List ImageSpec) (r : Result (List Step) Place) (script : Plain) : Type 0 where
+record WithSteps (ram_base : ℕ) (images : List ImageSpec) (r : Result (List Step) Place) (script : Plain) : Type 0 where
   steps : List Step
   first : r ≡ Ok steps
-  same : record { image = images; step = steps } ≡ script
+  same : record { ram_base = ram_base; image = images; step = steps } ≡ script
 
-with_all : (images : List ImageSpec) (r : Result (List Step) Place) (script : Plain) → with_steps images r ≡ Ok script → WithSteps images r script
-with_all images (Ok steps) script h = record { steps = steps; first = refl; same = cc }
-with_all images (Err e) script h = cc
+with_all : (ram_base : ℕ) (images : List ImageSpec) (r : Result (List Step) Place) (script : Plain) → with_steps ram_base images r ≡ Ok script → WithSteps ram_base images r script
+with_all ram_base images (Ok steps) script h = record { steps = steps; first = refl; same = cc }
+with_all ram_base images (Err e) script h = cc
 
 document_read : (table : Members) (script : Plain) → script_of table ≡ Ok script → IsScript script
 unfolding script_of
 document_read table script h =
-    let rest : Top → Result Plain Place = λ top. placed 0 (images_of [] top.images) (λ images. with_steps images (steps_of images [] top.steps)) in
+    let rest : Top → Result Plain Place = λ top. placed 0 (images_of [] top.images) (λ images. with_steps top.ram_base images (steps_of images [] top.steps)) in
     let top = went_on 0 (top_of table) rest script h in
-    let images = went_on 0 (images_of [] top.x.images) (λ images. with_steps images (steps_of images [] top.x.steps)) script top.then_ in
-    let all = with_all images.x (steps_of images.x [] top.x.steps) script images.then_ in
+    let images = went_on 0 (images_of [] top.x.images) (λ images. with_steps top.x.ram_base images (steps_of images [] top.x.steps)) script top.then_ in
+    let all = with_all top.x.ram_base images.x (steps_of images.x [] top.x.steps) script images.then_ in
     let counts = top_read table top.x top.first in
     let read = images_read [] top.x.images images.x images.first in
     let ran = steps_read images.x [] top.x.steps all.steps all.first in
     let same_images : images.x ≡ read.added = read.same in
     let same_steps : all.steps ≡ ran.added = ran.same in
     subst IsScript all.same (record {
+      ram_base = counts.ram_base;
       few_images = omega (arith, ap length same_images, read.long, counts.few_images);
       images = rw same_images read.keep;
       some_steps = omega (arith, ap length same_steps, ran.long, counts.some_steps);

@@ -4,7 +4,7 @@ use Rattle.uh_base.specs.Names.{is_name}
 use Rattle.host_script.specs.declared.script.ImageSpec.{ImageSpec}
 use Rattle.host_script.specs.declared.script.Step.{Step}
 use Rattle.host_script.specs.declared.script.Step.TheVariants.{Load, Start}
-use Rattle.host_script.specs.Script.{Plain, has_image, script_in}
+use Rattle.host_script.specs.Script.{Plain, has_image, is_ram_base, script_in}
 
 -- Each image has a name, which none before it has.
 abbrev pub AreImages : List ImageSpec → List ImageSpec → Type 0
@@ -22,6 +22,7 @@ AreSteps images (step ∷ steps) = IsStep images step × AreSteps images steps
 
 -- a script that there is
 pub record IsScript (script : Plain) : Type 0 where
+  pub ram_base : is_ram_base script.ram_base ≡ true
   pub few_images : length script.image ≤ 16
   pub images : AreImages [] script.image
   pub some_steps : 1 ≤ length script.step

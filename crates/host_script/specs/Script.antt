@@ -1,16 +1,16 @@
 -- The script that a document says, or the first thing that is wrong with it.
-use Rattle.std.specs.Prelude.{◌+◌, ◌==◌, ℕ, List, [], ◌∷◌, ◌++◌, length, codes, Bool, Option, Some, None, Result, Ok, Err, unwrap_or, if◌then◌else◌}
+use Rattle.std.specs.Prelude.{◌+◌, ◌*◌, ◌%◌, ◌^◌, ◌==◌, ◌&&◌, nat_le, ℕ, List, [], ◌∷◌, ◌++◌, length, codes, Bool, Option, Some, None, Result, Ok, Err, unwrap_or, if◌then◌else◌}
 use Rattle.std.specs.List.{list_any}
 use Rattle.std.specs.Str.{bytes_eq, is_utf8}
 use Rattle.toml.specs.Data.{Data, Items, no_items, item, Members, as_table}
 use Rattle.toml.specs.Parse.{parse_document}
 use Rattle.uh_base.specs.Names.{is_name}
 use Rattle.host_script.specs.Faults.{◌>>=◌, Place, placed}
-use Rattle.host_script.specs.Fields.{only_keys, text_field, integer_field, tables_field, items_len, counted, needed}
+use Rattle.host_script.specs.Fields.{only_keys, text_field, number_field, integer_field, tables_field, items_len, counted, needed}
 use Rattle.host_script.specs.declared.fault.ScriptKind.{ScriptKind}
 use Rattle.host_script.specs.declared.fault.ScriptKind.TheVariants as kinds
 use Rattle.host_script.specs.declared.script.Origin.{Origin}
-use Rattle.host_script.specs.declared.script.Origin.TheVariants.{File}
+use Rattle.host_script.specs.declared.script.Origin.TheVariants.{File, Text}
 use Rattle.host_script.specs.declared.script.ImageSpec.{ImageSpec}
 use Rattle.host_script.specs.declared.script.Step.{Step}
 use Rattle.host_script.specs.declared.script.Step.TheVariants.{Load, Start}
@@ -28,6 +28,7 @@ table_of (Some members) = Ok members
 -- ---- the top table
 
 pub record Top : Type 0 where
+  pub ram_base : ℕ
   pub images : Items
   pub steps : Items
 
@@ -37,24 +38,46 @@ not_empty items = if items_len items == 0 then Err kinds.Missing else Ok items
 unfoldable pub steps_field : Members → Result Items ScriptKind
 steps_field top = (tables_field (codes "step") top >>= not_empty) >>= counted 4096
 
+-- the address of the first byte of RAM, of which there are 4,096 pages
+abbrev pub is_ram_base : ℕ → Bool
+is_ram_base base = base % 4096 == 0 && nat_le 0x100000 base && nat_le (base + 4096 * 4096) (2 ^ 46)
+
+abbrev pub base_or : Option ℕ → Result ℕ ScriptKind
+base_or None = Ok 0x40000000
+base_or (Some base) = if is_ram_base base then Ok base else Err kinds.Value
+
+unfoldable pub ram_base_of : Members → Result ℕ ScriptKind
+ram_base_of top = number_field (codes "ram_base") top >>= base_or
+
 unfoldable pub top_of : Members → Result Top ScriptKind
 top_of top = do
-  _ ← only_keys (codes "image" ∷ codes "step" ∷ []) top
+  _ ← only_keys (codes "ram_base" ∷ codes "image" ∷ codes "step" ∷ []) top
+  ram_base ← ram_base_of top
   images ← tables_field (codes "image") top >>= counted 16
   steps ← steps_field top
-  Ok (record { images = images; steps = steps })
+  Ok (record { ram_base = ram_base; images = images; steps = steps })
 
 -- ---- images, each with those before it
 
 abbrev pub new_name : List ImageSpec → List ℕ → Result (List ℕ) ScriptKind
 new_name before name = if is_name name then (if has_image before name then Err kinds.Name else Ok name) else Err kinds.Value
 
+-- a file or a text, one of the two
+abbrev pub one_of : Option (List ℕ) → Option (List ℕ) → Result Origin ScriptKind
+one_of (Some file) None = Ok (File file)
+one_of None (Some text) = Ok (Text text)
+one_of None None = Err kinds.Missing
+one_of (Some file) (Some text) = Err kinds.Shape
+
 unfoldable pub origin_of : Members → Result Origin ScriptKind
-origin_of image = needed (text_field (codes "file") image) >>= λ file. Ok (File file)
+origin_of image = do
+  file ← text_field (codes "file") image
+  text ← text_field (codes "text") image
+  one_of file text
 
 unfoldable pub image_of : List ImageSpec → Members → Result ImageSpec ScriptKind
 image_of before image = do
-  _ ← only_keys (codes "name" ∷ codes "file" ∷ []) image
+  _ ← only_keys (codes "name" ∷ codes "file" ∷ codes "text" ∷ []) image
   name ← needed (text_field (codes "name") image) >>= new_name before
   origin ← origin_of image
   Ok (record { name = name; origin = origin })
@@ -115,19 +138,20 @@ steps_of images before (item content items) = placed (length before + 1) (step_a
 
 -- a script, without where its lists lie in memory
 pub record Plain : Type 0 where
+  pub ram_base : ℕ
   pub image : List ImageSpec
   pub step : List Step
 
 abbrev pub plain : Script → Plain
-plain script = record { image = script.image.items; step = script.step.items }
+plain script = record { ram_base = script.ram_base; image = script.image.items; step = script.step.items }
 
-abbrev pub with_steps : List ImageSpec → Result (List Step) Place → Result Plain Place
-with_steps images (Ok steps) = Ok (record { image = images; step = steps })
-with_steps images (Err place) = Err place
+abbrev pub with_steps : ℕ → List ImageSpec → Result (List Step) Place → Result Plain Place
+with_steps ram_base images (Ok steps) = Ok (record { ram_base = ram_base; image = images; step = steps })
+with_steps ram_base images (Err place) = Err place
 
 -- the top table, the images and the steps are step 0, step 0, and each its own
 unfoldable pub script_of : Members → Result Plain Place
-script_of document = placed 0 (top_of document) (λ top. placed 0 (images_of [] top.images) (λ images. with_steps images (steps_of images [] top.steps)))
+script_of document = placed 0 (top_of document) (λ top. placed 0 (images_of [] top.images) (λ images. with_steps top.ram_base images (steps_of images [] top.steps)))
 
 abbrev pub of_document : Option Members → Result Plain Place
 of_document None = Err (0, kinds.Text)

@@ -37,19 +37,26 @@ fn new_name<'a>(before: &[ImageSpec], name: &'a str) -> Result<&'a str, ScriptKi
     Ok(name)
 }
 
+/// Where the bytes of an image come from: a file or a text, one of the two.
 #[tactic(auto, unfolding(crate::specs::Script::origin_of))]
 fn origin_of(alloc: Global, image: &Table) -> Result<Origin, Fault>
     ensures { Gives (λ origin. origin) result (origin_of (table_view image.now)) }
 {
-    let file = fields::needed_text(image, "file")?;
-    Ok(Origin::File(Text::new(alloc, file)?))
+    let file = fields::text_field(image, "file")?;
+    let text = fields::text_field(image, "text")?;
+    match (file, text) {
+        (Some(file), None) => Ok(Origin::File(Text::new(alloc, file)?)),
+        (None, Some(text)) => Ok(Origin::Text(Text::new(alloc, text)?)),
+        (None, None) => Err(Fault::Kind(ScriptKind::Missing)),
+        (Some(_), Some(_)) => Err(Fault::Kind(ScriptKind::Shape)),
+    }
 }
 
 #[tactic(auto, unfolding(crate::specs::Script::image_of))]
 fn image_of(alloc: Global, before: &[ImageSpec], image: &Table) -> Result<ImageSpec, Fault>
     ensures { Gives (λ image. image) result (image_of before.now (table_view image.now)) }
 {
-    fields::only_keys(image, &["name", "file"])?;
+    fields::only_keys(image, &["name", "file", "text"])?;
     let name = new_name(before, fields::needed_text(image, "name")?)?;
     let origin = origin_of(alloc, image)?;
     Ok(ImageSpec {

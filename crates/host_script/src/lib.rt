@@ -11,5 +11,5 @@ mod steps;
 mod tests;
 
 pub use fault::{ScriptFault, ScriptKind};
-pub use reading::read_script;
+pub use reading::{read_script, scripts_keep_forms};
 pub use script::{ImageSpec, Origin, Script, Step};

@@ -3,7 +3,7 @@ ghost use Rattle.std.specs.Prelude.{◌≡◌, ◌≤◌, length, IfOk};
 ghost use Rattle.toml.specs.View.{table_view, items_view};
 ghost use Rattle.host_script.specs.Faults.{Reads};
 ghost use Rattle.host_script.specs.Fields.{seen_items};
-ghost use Rattle.host_script.specs.Script.{not_empty, steps_field, top_of, plain, script_of, script_in};
+ghost use Rattle.host_script.specs.Script.{not_empty, steps_field, is_ram_base, ram_base_of, top_of, plain, script_of, script_in};
 ghost use Rattle.host_script.specs.Forms.{ScriptsKeepForms};
 ghost use Rattle.host_script.specs.Seen.{top_seen};
 
@@ -18,6 +18,7 @@ use toml::{Table, Value};
 /// The keys of the top table.
 #[derive(Drop)]
 struct Top<'a> {
+    ram_base: u64,
     images: &'a [Value],
     steps: &'a [Value],
 }
@@ -42,15 +43,44 @@ fn steps_field(top: &Table) -> Result<&[Value], ScriptKind>
     fields::counted(not_empty(fields::tables_field(top, "step")?)?, 4096)
 }
 
+/// Whether RAM may begin at an address.
+fn is_ram_base(base: u64) -> bool
+    ensures { result ≡ is_ram_base base }
+{
+    base % 4096 == 0 && base >= 0x10_0000 && base <= (1 << 46) - 4096 * 4096
+}
+
+/// Where RAM begins: 0x40000000 where the key isn't there.
+#[tactic(auto, unfolding(crate::specs::Script::ram_base_of))]
+fn ram_base_of(top: &Table) -> Result<u64, ScriptKind>
+    ensures { result ≡ ram_base_of (table_view top.now) }
+{
+    match fields::number_field(top, "ram_base")? {
+        None => Ok(0x4000_0000),
+        Some(base) => {
+            if is_ram_base(base) {
+                Ok(base)
+            } else {
+                Err(ScriptKind::Value)
+            }
+        }
+    }
+}
+
 #[tactic(auto, unfolding(crate::specs::Script::top_of))]
 fn top_of(top: &Table) -> Result<Top<'_>, ScriptKind>
     ensures seen { top_seen result ≡ top_of (table_view top.now) }
     ensures few { IfOk result (λ top. length top.steps.now ≤ 4096) }
 {
-    fields::only_keys(top, &["image", "step"])?;
+    fields::only_keys(top, &["ram_base", "image", "step"])?;
+    let ram_base = ram_base_of(top)?;
     let images = fields::counted(fields::tables_field(top, "image")?, 16)?;
     let steps = steps_field(top)?;
-    Ok(Top { images, steps })
+    Ok(Top {
+        ram_base,
+        images,
+        steps,
+    })
 }
 
 #[tactic(auto, unfolding(crate::specs::Script::script_of))]
@@ -66,7 +96,11 @@ fn script_of(alloc: Global, document: &Table) -> Result<Script, ScriptFault>
         Err(fault) => return Err(fault_at(0, fault)),
     };
     match steps_of(alloc, image.as_slice(), top.steps) {
-        Ok(step) => Ok(Script { image, step }),
+        Ok(step) => Ok(Script {
+            ram_base: top.ram_base,
+            image,
+            step,
+        }),
         Err(fault) => Err(fault),
     }
 }

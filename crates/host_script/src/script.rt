@@ -6,6 +6,8 @@ use uh_base::Text;
 pub enum Origin {
     /// A PE file of this name.
     File(Text),
+    /// What this assembly text is assembled to.
+    Text(Text),
 }
 
 /// An image that a script names.
@@ -28,6 +30,8 @@ pub enum Step {
 /// A script: at most 16 images, and 1 to 4,096 steps.
 #[derive(Drop)]
 pub struct Script {
+    /// The address of the first byte of RAM: a multiple of 4,096 from 0x100000 on, with which RAM ends at most at 2^46.
+    pub ram_base: u64,
     pub image: Vec<ImageSpec>,
     pub step: Vec<Step>,
 }

@@ -55,6 +55,20 @@ fn faults_of_the_document(rt: HostRuntime) -> Result<(), Fail> {
                 ScriptKind::Shape,
             ),
             ("image = 3\nother = 1\n", 0, ScriptKind::Key),
+            ("ram_base = 0x40000000\nstep = 3\n", 0, ScriptKind::Shape),
+            (
+                "ram_base = \"0x40000800\"\nstep = 3\n",
+                0,
+                ScriptKind::Value,
+            ),
+            ("ram_base = \"0xff000\"\nstep = 3\n", 0, ScriptKind::Value),
+            (
+                "ram_base = \"0x3fffff001000\"\nstep = 3\n",
+                0,
+                ScriptKind::Value,
+            ),
+            ("ram_base = \"4G\"\nimage = 3\n", 0, ScriptKind::Value),
+            ("ram_base = \"0x100000\"\nstep = 3\n", 0, ScriptKind::Shape),
             ("step = []\n", 0, ScriptKind::Missing),
             ("step = 3\n", 0, ScriptKind::Shape),
             ("step = [\"load\"]\n", 0, ScriptKind::Shape),
@@ -90,6 +104,16 @@ fn faults_of_images(rt: HostRuntime) -> Result<(), Fail> {
             ("[[image]]\n", 0, ScriptKind::Missing),
             ("[[image]]\nfile = \"f\"\n", 0, ScriptKind::Missing),
             ("[[image]]\nname = \"a\"\n", 0, ScriptKind::Missing),
+            (
+                "[[image]]\nname = \"a\"\ntext = 1\n",
+                0,
+                ScriptKind::Shape,
+            ),
+            (
+                "[[image]]\nname = \"a\"\nfile = \"f\"\ntext = \"start: ret\"\n",
+                0,
+                ScriptKind::Shape,
+            ),
             (
                 "[[image]]\nname = \"a\"\nfile = \"f\"\npath = 1\n",
                 0,
@@ -239,8 +263,8 @@ fn a_script(rt: HostRuntime) -> Result<(), Fail> {
     let script = read_script(alloc, text.as_bytes()).ok().ok_or("a script")?;
     assert!(rt; script.image.len() == 2);
     assert!(rt; script.image[0].name.as_str() == "app");
-    let Origin::File(file) = &script.image[1].origin;
-    assert!(rt; file.as_str() == "d/drv.efi");
+    assert!(rt; script.ram_base == 0x4000_0000);
+    assert!(rt; matches!(&script.image[1].origin, Origin::File(file) if file.as_str() == "d/drv.efi"));
     assert!(rt; script.step.len() == 3);
     assert!(rt; matches!(&script.step[0], Step::Load { image } if image.as_str() == "drv_2"));
     assert!(rt;
@@ -255,6 +279,26 @@ fn a_script(rt: HostRuntime) -> Result<(), Fail> {
     assert!(rt;
         matches!(&script.step[2], Step::Start { image, bound: 50_000_000 } if image.as_str() == "app")
     );
+    Ok(())
+}
+
+#[test]
+fn a_script_of_a_text(rt: HostRuntime) -> Result<(), Fail> {
+    let bases = [
+        ("0x100000", 0x10_0000),
+        ("2147483648", 0x8000_0000),
+        ("0x3fffff000000", (1 << 46) - (1 << 24)),
+    ];
+    for (base, wanted) in bases {
+        let text = format!(in rt.alloc(); "ram_base = \"{base}\"\n[[image]]\nname = \"a\"\ntext = \"\"\"\nstart: ret # done\n\"\"\"\n[[step]]\ndo = \"load\"\nimage = \"a\"\n")?;
+        let script = read_script(rt.alloc(), text.as_bytes())
+            .ok()
+            .ok_or("a script")?;
+        assert!(rt; script.ram_base == wanted, "{base}");
+        assert!(rt;
+            matches!(&script.image[0].origin, Origin::Text(text) if text.as_str() == "start: ret # done\n")
+        );
+    }
     Ok(())
 }
 

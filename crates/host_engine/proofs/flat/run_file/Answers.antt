@@ -2,12 +2,12 @@ use Rattle.std.proofs.Common.{◌∙◌, ap, ◌++◌, ◌∷◌, []}
 use Rattle.host_engine.specs.FlatMemories.{flat_bytes}
 use Rattle.host_engine.specs.FlatRuns.{End}
 use Rattle.host_engine.specs.Lines.{line_of, flat_text}
-use Rattle.host_engine.specs.Gives.{ending_of}
+use Rattle.host_engine.specs.Prints.{halts}
 use Rattle.host_engine.proofs.RunLemmas.{flat_ended}
 use Rattle.host_engine.proofs.flat.run_file.Goals as goal
 
-pub returns-clause-status : goal.returns-clause-status
-returns-clause-status c = c.ending_of.ensures.status ∙ ap (λ (e : End). ending_of e.cause) (flat_ended _ _ _ _ c.in_ok-memory.ensures c.run-end.ensures)
+pub returns-clause-halted : goal.returns-clause-halted
+returns-clause-halted c = c.halts.ensures ∙ ap (λ (e : End). halts e.cause) (flat_ended _ _ _ _ c.in_ok-memory.ensures c.run-end.ensures)
 
 pub returns-clause-text : goal.returns-clause-text
 unfolding flat_text

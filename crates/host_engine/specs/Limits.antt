@@ -1,0 +1,10 @@
+-- The most bytes that the files of a command have.
+use Rattle.std.specs.Prelude.{ℕ}
+
+-- a script
+abbrev pub script_limit : ℕ
+script_limit = 0x100000
+
+-- code for `flat`, and an image
+abbrev pub code_limit : ℕ
+code_limit = 0x400000
