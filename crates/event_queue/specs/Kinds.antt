@@ -58,6 +58,3 @@ virtual_group = record { d1 = 0x13fa7698; d2 = 0xc831; d3 = 0x49c7; d4 = 0x87ea8
 -- the group of an event of a type, for which a group may have been given
 abbrev pub group_for : ℕ → Option Guid → Option Guid
 group_for kind group = if kind == 0x201 then Some exit_group else (if kind == 0x60000202 then Some virtual_group else group)
-
-abbrev pub is_same : Guid → Guid → Bool
-is_same a b = a.d1 == b.d1 && (a.d2 == b.d2 && (a.d3 == b.d3 && a.d4 == b.d4))

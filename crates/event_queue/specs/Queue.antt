@@ -5,7 +5,8 @@ use Rattle.uh_base.specs.declared.guid.Guid.{Guid}
 use Rattle.event_queue.specs.declared.event.Event.{Event}
 use Rattle.event_queue.specs.declared.event.Entry.{Entry}
 use Rattle.event_queue.specs.declared.event.Notify.{Notify}
-use Rattle.event_queue.specs.Kinds.{is_signal, notifies, is_level, is_same}
+use Rattle.event_queue.specs.Kinds.{is_signal, notifies, is_level}
+use Rattle.uh_base.specs.Guid.{same_guid}
 
 -- the live events in order of making; the queue of notifications in order of signalling; how many events were made;
 -- the listed tick moments; the last tick, 0 at first
@@ -74,7 +75,7 @@ raise_each (number ∷ numbers) s = raise_each numbers (raise_one s number)
 
 abbrev pub has_group : Guid → Option Guid → Bool
 has_group group None = false
-has_group group (Some other) = is_same other group
+has_group group (Some other) = same_guid other group
 
 abbrev pub in_group : Guid → Event → Bool
 in_group group event = has_group group event.group

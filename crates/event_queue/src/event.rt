@@ -5,7 +5,7 @@ ghost use Rattle.std.specs.Prelude.{◌≡◌, ◌<◌, false, length, slice_ind
 ghost use Rattle.event_queue.specs.Queue.{in_group, entry_of, is_kept, is_event, AreRising};
 ghost use Rattle.event_queue.specs.Timers.{is_due, stopped, rewound};
 
-use crate::kind::{is_same, is_signal};
+use crate::kind::is_signal;
 use crate::timer::Timer;
 use uh_base::Guid;
 
@@ -58,7 +58,7 @@ impl Event {
         ensures { result ≡ in_group group.now self.now }
     {
         match &self.group {
-            Some(own) => is_same(own, group),
+            Some(own) => own.is_same(group),
             None => false,
         }
     }

@@ -2,7 +2,7 @@
 #![tactic(auto)]
 
 ghost use Rattle.std.specs.Prelude.{◌≡◌};
-ghost use Rattle.event_queue.specs.Kinds.{is_timer, is_wait, is_signal, names_group, is_kind, can_notify, can_group, is_request, group_for, is_same};
+ghost use Rattle.event_queue.specs.Kinds.{is_timer, is_wait, is_signal, names_group, is_kind, can_notify, can_group, is_request, group_for};
 
 use uh_base::Guid;
 
@@ -109,11 +109,4 @@ pub fn group_for(kind: u32, group: Option<Guid>) -> Option<Guid>
     } else {
         group
     }
-}
-
-/// Whether two groups are one.
-pub fn is_same(a: &Guid, b: &Guid) -> bool
-    ensures { result ≡ is_same a.now b.now }
-{
-    a.d1 == b.d1 && a.d2 == b.d2 && a.d3 == b.d3 && a.d4 == b.d4
 }

@@ -3,6 +3,7 @@ use Rattle.std.specs.Prelude.{ℕ, ◌+◌, ◌*◌, ◌==◌, ◌&&◌, not, Bo
 use Rattle.std.specs.List.{find, filter, list_any}
 use Rattle.std.specs.Option.{option_map, is_some}
 use Rattle.uh_base.specs.declared.guid.Guid.{Guid}
+pub use Rattle.uh_base.specs.Guid.{same_guid}
 use Rattle.handle_db.specs.declared.entry.OpenEntry.{OpenEntry}
 
 -- one protocol on a handle: its GUID, its interface, and the record of its opens, the oldest first
@@ -20,9 +21,6 @@ pub record Handle : Type 0 where
 pub record Database : Type 0 where
   pub live : List Handle
   pub made : ℕ
-
-abbrev pub same_guid : Guid → Guid → Bool
-same_guid a b = a.d1 == b.d1 && (a.d2 == b.d2 && (a.d3 == b.d3 && a.d4 == b.d4))
 
 -- how handle k is shown, from 1 in order of making
 abbrev pub shown : ℕ → ℕ

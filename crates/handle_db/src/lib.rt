@@ -2,7 +2,6 @@
 #![tactic(auto)]
 
 mod entry;
-mod guids;
 mod handle;
 mod handles;
 mod laws;
@@ -12,7 +11,6 @@ mod refusal;
 mod tests;
 
 pub use entry::OpenEntry;
-pub use guids::is_same;
 pub use handles::Handles;
 pub use laws::{discarded_is_gone, new_is_new, removed_is_gone, replaced_is_fresh, same_is_equal};
 pub use pair::PairEntry;

@@ -5,7 +5,6 @@ ghost use Rattle.std.specs.Prelude.{◌≡◌, ◌==◌, [], IfOk, OnOk, OnErr, 
 ghost use Rattle.handle_db.specs.Database.{Pair, has_guid, fresh, is_like, noted, closed};
 
 use crate::entry::OpenEntry;
-use crate::guids::is_same;
 use std::alloc::{AllocError, Global};
 use std::marker::Model;
 use uh_base::Guid;
@@ -42,7 +41,7 @@ impl PairEntry {
     pub fn is_of(&self, guid: &Guid) -> bool
         ensures { result ≡ has_guid guid.now self.now }
     {
-        is_same(&self.guid, guid)
+        self.guid.is_same(guid)
     }
 
     /// The GUID.

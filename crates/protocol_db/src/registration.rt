@@ -5,7 +5,6 @@ ghost use Rattle.std.specs.Prelude.{◌≡◌, ◌==◌, [], IfOk, MatchOption, 
 ghost use Rattle.std.specs.List.{list_any};
 ghost use Rattle.protocol_db.specs.Registrations.{Registration, is_for, told, untold, all_told, none_told};
 
-use handle_db::is_same;
 use std::alloc::{AllocError, Global};
 use std::marker::Model;
 use uh_base::Guid;
@@ -58,7 +57,7 @@ impl RegistrationEntry {
     pub fn is_for(&self, guid: &Guid) -> bool
         ensures { result ≡ is_for guid.now self.now }
     {
-        is_same(&self.guid, guid)
+        self.guid.is_same(guid)
     }
 
     /// Whether a handle is pending.

@@ -51,13 +51,13 @@ pub named_tells : (name : List ℕ) (vendor : Guid) (entry : Entry) → is_named
 named_tells name vendor entry h =
     let p = and_true (same_guid entry.vendor vendor) (bytes_eq entry.name name) h in
     let q = and_true _ _ p.0 in
-    let r = and_true _ _ q.0 in
-    let s = and_true _ _ r.0 in
-    record { d1 = equal _ _ s.0; d2 = equal _ _ s.1; d3 = equal _ _ r.1; d4 = equal _ _ q.1; names = (bytes_eq-Decides entry.name name).0 p.1 }
+    let r = and_true _ _ q.1 in
+    let s = and_true _ _ r.1 in
+    record { d1 = equal _ _ q.0; d2 = equal _ _ r.0; d3 = equal _ _ s.0; d4 = equal _ _ s.1; names = (bytes_eq-Decides entry.name name).0 p.1 }
 
 pub named_is : (name : List ℕ) (vendor : Guid) (entry : Entry) → SameKey name vendor entry → is_named name vendor entry ≡ true
 named_is name vendor entry k =
-    and_both _ _ (and_both _ _ (and_both _ _ (and_both _ _ (is_equal _ _ k.d1) (is_equal _ _ k.d2)) (is_equal _ _ k.d3)) (is_equal _ _ k.d4))
+    and_both _ _ (and_both _ _ (is_equal _ _ k.d1) (and_both _ _ (is_equal _ _ k.d2) (and_both _ _ (is_equal _ _ k.d3) (is_equal _ _ k.d4))))
     ((bytes_eq-Decides entry.name name).1 k.names)
 
 -- where one isn't named as another, that one isn't named as it

@@ -2,6 +2,7 @@
 use Rattle.std.specs.Prelude.{ℕ, suc, ◌+◌, ◌-◌, ◌*◌, ◌==◌, ◌&&◌, ◌||◌, not, bit_and, sum_by, Bool, List, [], ◌∷◌, length, drop, Option, Some, None, option_map, Result, Ok, Err, if◌then◌else◌}
 use Rattle.std.specs.Str.{bytes_eq}
 use Rattle.uh_base.specs.declared.guid.Guid.{Guid}
+pub use Rattle.uh_base.specs.Guid.{same_guid}
 use Rattle.variable_store.specs.declared.refusal.VarRefusal.{VarRefusal}
 use Rattle.variable_store.specs.declared.refusal.VarRefusal.TheVariants.{Invalid}
 
@@ -38,9 +39,6 @@ total entries = sum_by cost entries
 -- the room that is left of 65,536 bytes
 unfoldable pub room_of : List Entry → ℕ
 room_of entries = 65_536 - total entries
-
-abbrev pub same_guid : Guid → Guid → Bool
-same_guid a b = a.d1 == b.d1 && a.d2 == b.d2 && a.d3 == b.d3 && a.d4 == b.d4
 
 -- a variable of a vendor by a name
 abbrev pub is_named : List ℕ → Guid → Entry → Bool

@@ -3,7 +3,7 @@
 
 ghost use Rattle.std.specs.Prelude.{◌≡◌, ◌≤◌, ◌&&◌, ◌^◌, OnOk, OnErr};
 ghost use Rattle.uh_base.specs.Guid.{IsGuid};
-ghost use Rattle.variable_store.specs.Entries.{same_guid, is_named, is_seen, is_non_volatile, is_runtime, is_append, cost};
+ghost use Rattle.variable_store.specs.Entries.{is_named, is_seen, is_non_volatile, is_runtime, is_append, cost};
 ghost use Rattle.variable_store.specs.Sets.{written};
 ghost use Rattle.variable_store.specs.Valid.{AreBelow};
 
@@ -55,12 +55,6 @@ pub fn is_append(attributes: u32) -> bool
     attributes & APPEND_WRITE != 0
 }
 
-fn same_guid(a: &Guid, b: &Guid) -> bool
-    ensures { result ≡ same_guid a.now b.now }
-{
-    a.d1 == b.d1 && a.d2 == b.d2 && a.d3 == b.d3 && a.d4 == b.d4
-}
-
 /// The fields of a GUID fit their types.
 pub fn fits(guid: &Guid)
     ensures { IsGuid guid.now }
@@ -92,7 +86,7 @@ impl Variable {
     pub fn is_named(&self, name: &[u16], vendor: &Guid) -> bool
         ensures { result ≡ is_named name.now vendor.now self.now }
     {
-        same_guid(&self.vendor, vendor) && self.name.as_slice() == name
+        self.vendor.is_same(vendor) && self.name.as_slice() == name
     }
 
     /// It is seen: after the end of boot services it needs runtime access.
