@@ -5,3 +5,4 @@ pub mod LabelLemmas
 pub mod PutLemmas
 pub mod LineLemmas
 pub mod MeasureLemmas
+pub mod DecodeLemmas

@@ -1,5 +1,5 @@
 -- Runs over more and more sites.
-use Rattle.std.proofs.Common.{◌≡◌, ℕ, ◌+◌, ◌-◌, ◌%◌, ◌<◌, ◌≤◌, List, [], ◌∷◌, ◌++◌, None, false, length, take, drop, refl, sym, ap, subst, ◌∙◌, append_assoc, append-nil, zero-add, take-append-drop, length-append, arith}
+use Rattle.std.proofs.Common.{◌≡◌, ℕ, ◌+◌, ◌-◌, ◌%◌, List, [], ◌++◌, None, false, length, take, drop, sym, ap, subst, ◌∙◌, append_assoc, append-nil, zero-add, take-append-drop, length-append, arith}
 use Rattle.std.proofs.lemmas.List.{take_all, take_rest, take-append-le, map-append}
 use Rattle.std.specs.Prelude.{nat_lt, Option, Result, Ok, Err}
 use Rattle.guest_build.specs.Assembled.{here_in, sections_put}

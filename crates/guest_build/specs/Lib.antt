@@ -13,3 +13,4 @@ pub mod Image
 pub mod Assembled
 pub mod Views
 pub mod Measures
+pub mod Decodes

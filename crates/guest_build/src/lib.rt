@@ -9,6 +9,7 @@ mod fault;
 mod image;
 mod instruction;
 mod labels;
+mod laws;
 mod layout;
 mod line;
 mod little_endian;
@@ -26,3 +27,4 @@ mod word;
 
 pub use assembly::assemble;
 pub use fault::{AsmFault, AsmKind};
+pub use laws::instructions_decode;

@@ -17,4 +17,4 @@ mod text;
 pub use decoder::{decode, one_row_holds};
 pub use encoder::{encode, fits_exactly};
 pub use insn::{Insn, Op};
-pub use laws::fields_decide;
+pub use laws::{fields_decide, words_are_read_back};

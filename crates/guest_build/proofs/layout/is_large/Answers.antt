@@ -1,4 +1,3 @@
-use Rattle.std.proofs.Common.{◌≡◌}
 use Rattle.guest_build.specs.Views.{sections_of}
 use Rattle.guest_build.proofs.MeasureLemmas.{large_is}
 use Rattle.guest_build.proofs.layout.is_large.Goals as goal

@@ -1,0 +1,5 @@
+use Rattle.guest_build.proofs.DecodeLemmas.{instructions}
+use Rattle.guest_build.proofs.laws.instructions_decode.Goals as goal
+
+pub returns : goal.returns
+returns c = instructions
