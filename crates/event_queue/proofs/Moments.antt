@@ -3,7 +3,7 @@ use Rattle.std.proofs.Common.{◌≡◌, ℕ, ◌+◌, ◌-◌, ◌%◌, ◌^◌
 use Rattle.std.specs.Prelude.{nat_le, SomeIff, Option, Some, None, if◌then◌else◌}
 use Rattle.std.proofs.lemmas.Bool.{lt-leb, leb-true, cond-false}
 use Rattle.event_queue.specs.Queue.{EventList}
-use Rattle.event_queue.specs.Timers.{reached, rounded, first_moment, moment_ahead, next_moment, moment_for, least_due}
+use Rattle.event_queue.specs.Timers.{reached, rounded, first_moment, next_moment, moment_for, least_due}
 
 rounded_from : (low : ℕ) → low ≤ rounded low
 rounded_from low = omega arith
@@ -26,9 +26,6 @@ first_from (t ∷ ts) low = by (nat_le low t) refl (first_from ts low)
 -- a clock that is past its end reaches none
 pub none_reached : (moment : ℕ) → 2 ^ 64 - 1 < moment → reached moment ≡ None
 none_reached moment h = cond-false _ _ _ (lt-leb moment (2 ^ 64 - 1) h)
-
-pub none_ahead : (s : EventList) → (s.last_tick + 1 < 2 ^ 64 → ⊥) → None ≡ reached (moment_ahead s)
-none_ahead s h = sym (none_reached (moment_ahead s) (let f = first_from s.ticks (s.last_tick + 1) in omega (arith, f, h)))
 
 pub none_next : (s : EventList) (present : ℕ) → (s.last_tick + 1 < 2 ^ 64 → ⊥) → None ≡ next_moment s present
 unfolding next_moment

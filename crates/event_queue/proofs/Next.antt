@@ -8,7 +8,7 @@ use Rattle.std.proofs.lemmas.Bool.{and_parts, or_cases, true≢false, eqb-true, 
 use Rattle.event_queue.specs.declared.event.Event.{Event}
 use Rattle.event_queue.specs.declared.event.Entry.{Entry}
 use Rattle.event_queue.specs.Kinds.{notifies, is_level}
-use Rattle.event_queue.specs.Queue.{EventList, Whole, shown, is_number, is_entry, event_at, is_live, is_entry_of, has_level, lowered, lowered_if, greatest, next_entry, called, after_next}
+use Rattle.event_queue.specs.Queue.{EventList, Whole, shown, is_number, is_entry, event_at, is_live, is_entry_of, has_level, lowered, lowered_if, greatest, next_entry, after_next}
 use Rattle.event_queue.proofs.Lists.{Only, none_found, place_none, any_left, all_filtered, only_mapped}
 use Rattle.event_queue.proofs.Numbers.{only_event, once_filter}
 use Rattle.event_queue.proofs.Live.{live_is_event, fresh_fewer}
@@ -116,13 +116,7 @@ live_level (e ∷ es) x l h =
 pub entry_level : (s : EventList) (j : ℕ) (x : Entry) → Whole s → slice_get s.queue j ≡ Some x → (5 ≤ x.tpl) × (x.tpl ≤ 30)
 entry_level s j x w h = live_level s.events x w.levels (entry_live s j x w h)
 
-pub called_is : (s : EventList) (x : Entry) (e : Event) → event_at s.events x.event ≡ Some e → record { event = x.event; function = e.function; context = e.context; tpl = x.tpl } ≡ called s.events x
-called_is s x e h = rw h refl
-
 -- ---- the answers
-
-pub nothing_next : (s now : EventList) (part : List Entry) (tpl : ℕ) → s ≡ now → part ≡ s.queue → next_entry part tpl ≡ None → next_entry now.queue tpl ≡ None
-nothing_next s now part tpl v p h = ap (λ (t : EventList). next_entry t.queue tpl) (sym v) ∙ (ap (λ q. next_entry q tpl) (sym p) ∙ h)
 
 pub some_next : (s now : EventList) (part : List Entry) (tpl : ℕ) (x : Entry) → s ≡ now → part ≡ s.queue → next_entry part tpl ≡ Some x → after_next s (Some x) ≡ after_next now (next_entry now.queue tpl)
 some_next s now part tpl x v p h =

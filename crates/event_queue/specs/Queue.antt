@@ -198,6 +198,7 @@ abbrev pub Rising : ℕ → List Event → ℕ → Type 0
 Rising low [] high = low ≤ high
 Rising low (event ∷ events) high = (low < event.number) × Rising event.number events high
 
+-- Numbers are above 8, as the first is 24, and rise.
 abbrev pub AreRising : List Event → Type 0
 AreRising events = (high : ℕ) × Rising 8 events high
 
