@@ -104,11 +104,7 @@ fn faults_of_images(rt: HostRuntime) -> Result<(), Fail> {
             ("[[image]]\n", 0, ScriptKind::Missing),
             ("[[image]]\nfile = \"f\"\n", 0, ScriptKind::Missing),
             ("[[image]]\nname = \"a\"\n", 0, ScriptKind::Missing),
-            (
-                "[[image]]\nname = \"a\"\ntext = 1\n",
-                0,
-                ScriptKind::Shape,
-            ),
+            ("[[image]]\nname = \"a\"\ntext = 1\n", 0, ScriptKind::Shape),
             (
                 "[[image]]\nname = \"a\"\nfile = \"f\"\ntext = \"start: ret\"\n",
                 0,
@@ -264,7 +260,9 @@ fn a_script(rt: HostRuntime) -> Result<(), Fail> {
     assert!(rt; script.image.len() == 2);
     assert!(rt; script.image[0].name.as_str() == "app");
     assert!(rt; script.ram_base == 0x4000_0000);
-    assert!(rt; matches!(&script.image[1].origin, Origin::File(file) if file.as_str() == "d/drv.efi"));
+    assert!(rt;
+        matches!(&script.image[1].origin, Origin::File(file) if file.as_str() == "d/drv.efi")
+    );
     assert!(rt; script.step.len() == 3);
     assert!(rt; matches!(&script.step[0], Step::Load { image } if image.as_str() == "drv_2"));
     assert!(rt;
@@ -290,7 +288,9 @@ fn a_script_of_a_text(rt: HostRuntime) -> Result<(), Fail> {
         ("0x3fffff000000", (1 << 46) - (1 << 24)),
     ];
     for (base, wanted) in bases {
-        let text = format!(in rt.alloc(); "ram_base = \"{base}\"\n[[image]]\nname = \"a\"\ntext = \"\"\"\nstart: ret # done\n\"\"\"\n[[step]]\ndo = \"load\"\nimage = \"a\"\n")?;
+        let text = format!(in rt.alloc();
+            "ram_base = \"{base}\"\n[[image]]\nname = \"a\"\ntext = \"\"\"\nstart: ret # done\n\"\"\"\n[[step]]\ndo = \"load\"\nimage = \"a\"\n"
+        )?;
         let script = read_script(rt.alloc(), text.as_bytes())
             .ok()
             .ok_or("a script")?;

@@ -17,9 +17,12 @@ returns-in-Ok-put g c = record {
 }
 
 pub returns : goal.returns
-returns g c = (c.in-Err-put.ensures.cause, record {
-  text = c.in-Ok-assembly_of.image.items;
-  halted = _;
-  prints = (record { bytes = c.in-Ok.file.items; named = c.in-Ok.ensures.gives.0; within = c.in-Ok.ensures.gives.1 }, rw (sym c.as_slice.ensures.value) c.in-Ok-assembly_of.ensures, refl);
-  put = rw (sym c.as_slice-2.ensures.value) c.in-Err-put.ensures.part;
-})
+returns g c = (
+  c.in-Err-put.ensures.cause,
+  record {
+    text = c.in-Ok-assembly_of.image.items;
+    halted = _;
+    prints = (record { bytes = c.in-Ok.file.items; named = c.in-Ok.ensures.gives.0; within = c.in-Ok.ensures.gives.1 }, rw (sym c.as_slice.ensures.value) c.in-Ok-assembly_of.ensures, refl);
+    put = rw (sym c.as_slice-2.ensures.value) c.in-Err-put.ensures.part;
+  },
+)

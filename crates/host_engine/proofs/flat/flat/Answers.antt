@@ -10,9 +10,12 @@ returns-in-Ok-put g c = record {
 }
 
 pub returns : goal.returns
-returns g c = (c.in-Err-put.ensures.cause, record {
-  text = flat_text c.in-Ok.file.items c.args.bound;
-  halted = c.in-Ok-run_file.ran.0;
-  prints = (record { bytes = c.in-Ok.file.items; named = c.in-Ok.ensures.gives.0; within = c.in-Ok.ensures.gives.1 }, refl, rw (sym c.as_slice.ensures.value) c.in-Ok-run_file.ensures.halted);
-  put = rw (sym c.as_slice.ensures.value, sym c.in-Ok-run_file.ensures.text, sym c.as_slice-2.ensures.value) c.in-Err-put.ensures.part;
-})
+returns g c = (
+  c.in-Err-put.ensures.cause,
+  record {
+    text = flat_text c.in-Ok.file.items c.args.bound;
+    halted = c.in-Ok-run_file.ran.0;
+    prints = (record { bytes = c.in-Ok.file.items; named = c.in-Ok.ensures.gives.0; within = c.in-Ok.ensures.gives.1 }, refl, rw (sym c.as_slice.ensures.value) c.in-Ok-run_file.ensures.halted);
+    put = rw (sym c.as_slice.ensures.value, sym c.in-Ok-run_file.ensures.text, sym c.as_slice-2.ensures.value) c.in-Err-put.ensures.part;
+  },
+)

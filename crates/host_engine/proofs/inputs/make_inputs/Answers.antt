@@ -18,7 +18,7 @@ loop-source-preserved c =
     let left = c.loop-source.invariant.left in
     let pushed = rw c.if-is_err.ensures.negation at c.push.ensures.items in record {
       so_far = made_more c.args.sources.items c.loop-source.inputs.items c.push.new.self.items (into_iter_items c.next.new.self) c.in-Some.source c.in-Ok.file
-        (subst (λ (rest : List Source). Making c.args.sources.items c.loop-source.inputs.items rest) steps.0 c.loop-source.invariant.so_far) (rw (sym c.as_str.ensures) c.in-Ok.ensures) pushed;
+          (subst (λ (rest : List Source). Making c.args.sources.items c.loop-source.inputs.items rest) steps.0 c.loop-source.invariant.so_far) (rw (sym c.as_str.ensures) c.in-Ok.ensures) pushed;
       left = omega (arith, steps.1, left, ap length steps.0);
     }
 
