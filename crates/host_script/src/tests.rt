@@ -295,6 +295,7 @@ fn a_script_of_a_text(rt: HostRuntime) -> Result<(), Fail> {
             .ok()
             .ok_or("a script")?;
         assert!(rt; script.ram_base == wanted, "{base}");
+        assert!(rt; script.image.len() == 1, "{base}");
         assert!(rt;
             matches!(&script.image[0].origin, Origin::Text(text) if text.as_str() == "start: ret # done\n")
         );
