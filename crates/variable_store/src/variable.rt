@@ -37,18 +37,21 @@ impl Model for Variable {
     ghost view = { λ v. record { vendor = v.vendor; name = v.name.items; attributes = v.attributes; payload = v.payload.items } };
 }
 
+/// The variable outlives the run (EFI_VARIABLE_NON_VOLATILE).
 pub fn is_non_volatile(attributes: u32) -> bool
     ensures { result ≡ is_non_volatile attributes }
 {
     attributes & NON_VOLATILE != 0
 }
 
+/// The variable is seen after the end of boot services (EFI_VARIABLE_RUNTIME_ACCESS).
 pub fn is_runtime(attributes: u32) -> bool
     ensures { result ≡ is_runtime attributes }
 {
     attributes & RUNTIME_ACCESS != 0
 }
 
+/// Bytes go behind those that are there (EFI_VARIABLE_APPEND_WRITE).
 pub fn is_append(attributes: u32) -> bool
     ensures { result ≡ is_append attributes }
 {
