@@ -6,3 +6,16 @@ pub mod PutLemmas
 pub mod LineLemmas
 pub mod MeasureLemmas
 pub mod DecodeLemmas
+pub mod Sound
+pub mod NumberLemmas
+pub mod LayoutLemmas
+pub mod FieldLemmas
+pub mod ReadLemmas
+pub mod WholeLemmas
+pub mod MadeSizes
+pub mod MadeSteps
+pub mod MadeNumbers
+pub mod MadeLemmas
+pub mod PartLemmas
+pub mod SiteLemmas
+pub mod StandLemmas

@@ -14,3 +14,4 @@ pub mod Assembled
 pub mod Views
 pub mod Measures
 pub mod Decodes
+pub mod Read

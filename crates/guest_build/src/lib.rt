@@ -27,4 +27,7 @@ mod word;
 
 pub use assembly::assemble;
 pub use fault::{AsmFault, AsmKind};
-pub use laws::instructions_decode;
+pub use laws::{
+    assembled_images_are_read, instructions_decode, lines_stand_at_their_places,
+    sites_are_of_labels,
+};

@@ -2,8 +2,11 @@
 #![tactic(auto)]
 
 use crate::{AsmFault, AsmKind, assemble};
+use base_reloc::{Site, SiteKind, read_sites};
+use pe_image::{place, read_image};
 use std::alloc::Global;
 use std::process::Abort;
+use std::test::Fail;
 
 /// Whether these bytes stand at an offset of an image.
 fn has_at(image: &[u8], at: usize, bytes: &[u8]) -> bool {
@@ -29,6 +32,27 @@ fn refuses(rt: &impl Abort, alloc: Global, text: &str, line: u32, kind: AsmKind)
         Ok(_) => assert!(rt; false, "{text}"),
         Err(fault) => assert_eq!(rt; fault, AsmFault::At { line, kind }, "{text}"),
     }
+}
+
+/// Refuses an image that, once it is read and placed, has other sites than these.
+fn has_sites(rt: &impl Abort, alloc: Global, file: &[u8], wanted: &[Site]) -> Result<(), Fail> {
+    assert!(rt; file.len() <= 0x40_0000);
+    let image = read_image(alloc, file)?;
+    let mut placed = vec![in alloc; 0; (image.size as usize + 4095) / 4096 * 4096]?;
+    place(&image, file, placed.as_mut_slice());
+    let sites = read_sites(alloc, &image, placed.as_slice())?;
+    assert_eq!(rt; sites.as_slice(), wanted);
+    Ok(())
+}
+
+/// Refuses a text that is made to no image with these sites.
+fn moves(rt: &impl Abort, alloc: Global, text: &str, wanted: &[Site]) -> Result<(), Fail> {
+    assert!(rt; text.len() < 10_000);
+    match assemble(alloc, text) {
+        Ok(file) => has_sites(rt, alloc, file.as_slice(), wanted)?,
+        Err(fault) => assert!(rt; false, "{text}: {fault:?}"),
+    }
+    Ok(())
 }
 
 /// Each instruction once, and each pseudoinstruction of one word.
@@ -442,4 +466,42 @@ fn the_first_fault_is_told(rt: HostRuntime) {
     for (text, line, kind) in FAULTS {
         refuses(&rt, rt.alloc(), text, line, kind);
     }
+}
+
+#[test]
+fn addresses_of_labels_are_sites(rt: HostRuntime) -> Result<(), Fail> {
+    let alloc = rt.alloc();
+    // a cell behind five instructions and their headers, and none without a label
+    let cell = [Site {
+        at: 480,
+        kind: SiteKind::Dir64,
+    }];
+    moves(
+        &rt,
+        alloc,
+        ".alignment 32\nstart: la t0, cell\nld t0, 0(t0)\nla t1, start\nsub a0, t0, t1\nret\n.data\ncell: .dword start",
+        &cell,
+    )?;
+    moves(&rt, alloc, "start: ret\n.data\n.dword 4096", &[])?;
+    // three blocks, of two sections
+    let pages = [
+        Site {
+            at: 0x1000,
+            kind: SiteKind::High20,
+        },
+        Site {
+            at: 0x2000,
+            kind: SiteKind::Dir64,
+        },
+        Site {
+            at: 0x3008,
+            kind: SiteKind::Dir64,
+        },
+    ];
+    moves(
+        &rt,
+        alloc,
+        "start: lui a0, %hi(far)\nret\n.data\nnear: .dword start\n.zero 4096\nfar: .dword near",
+        &pages,
+    )
 }
