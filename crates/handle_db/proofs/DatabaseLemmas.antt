@@ -130,7 +130,7 @@ read_is d live made i x e is h read = read ∙ get_or_default live i x e h ∙ a
 pub inside : (d : Database) (n i : ℕ) (live : List Handle) (made : ℕ) → record { live = live; made = made } ≡ d → position (has_number n) d.live ≡ Some i → i < length live
 inside d n i live made e p = let h = place_inside (has_number n) d.live i (record { number = 0; pairs = [] }) p in let l = ap (λ (b : Database). length b.live) e in omega (arith, h, l)
 
-read_some : (d : Database) (n i : ℕ) (live : List Handle) (made : ℕ) (x : Handle) → record { live = live; made = made } ≡ d → position (has_number n) d.live ≡ Some i → x ≡ get_or live i x → handle_in d n ≡ Some x
+pub read_some : (d : Database) (n i : ℕ) (live : List Handle) (made : ℕ) (x : Handle) → record { live = live; made = made } ≡ d → position (has_number n) d.live ≡ Some i → x ≡ get_or live i x → handle_in d n ≡ Some x
 read_some d n i live made x e p is = handle_some d n i x p ∙ ap Some (sym (read_is d live made i x x e (inside d n i live made e p) is))
 
 pub pairs_write : (g : List Pair → List Pair) (d : Database) (n i : ℕ) (live : List Handle) (made : ℕ) (x y : Handle) → record { live = live; made = made } ≡ d → position (has_number n) d.live ≡ Some i → x ≡ get_or live i x → y ≡ record x { pairs = g x.pairs }

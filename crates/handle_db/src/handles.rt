@@ -65,14 +65,23 @@ impl Handles {
     fn find(&self, handle: u64) -> Option<&HandleEntry>
         ensures { option_copied result ≡ handle_in self.now handle }
     {
-        self.live.iter().find(|entry| entry.number() == handle)
+        match self.position(handle) {
+            None => None,
+            Some(place) => Some(&self.live[place]),
+        }
     }
 
     /// The place of the live handle that is shown so.
     fn position(&self, handle: u64) -> Option<usize>
         ensures { result ≡ position (has_number handle) self.now.live }
     {
-        self.live.iter().position(|entry| entry.number() == handle)
+        match self
+            .live
+            .binary_search_by_key(&handle, |entry| entry.number())
+        {
+            Ok(place) => Some(place),
+            Err(_) => None,
+        }
     }
 
     /// The place of the live handle that is shown so, and what stands there.

@@ -1,7 +1,8 @@
 -- What the calls give.
 use Rattle.std.proofs.Common.{◌≡◌, ◌∙◌, ℕ, ◌+◌, ◌*◌, List, [], ◌∷◌, ◌++◌, get_or, set, drop, refl, sym, ap, subst, Bool, true, false}
-use Rattle.std.specs.Prelude.{Option, Some, None, Ok, Err, if◌then◌else◌, not, ◌==◌, ◌&&◌, slice_get}
+use Rattle.std.specs.Prelude.{Option, Some, None, Ok, Err, if◌then◌else◌, not, ◌==◌, ◌&&◌, ◌||◌, slice_get}
 use Rattle.std.specs.List.{find, filter, position, list_any}
+use Rattle.std.specs.Option.{is_some}
 use Rattle.uh_base.specs.declared.guid.Guid.{Guid}
 use Rattle.handle_db.specs.Database.{Handle, Database, handle_in, has_guid, at_first, left_with, with_pairs, without, fresh}
 use Rattle.handle_db.specs.declared.refusal.HandleRefusal.TheVariants as handle
@@ -148,8 +149,22 @@ reinstall_here p hs d before after made n guid old new r events e done is f k l 
     rw there (rw free (rw k (rw l (rw counts refl))))
 
 -- a registration's notices
-nobody : (p : Protocols) (n : ℕ) (r : Option ℕ) → r ≡ position (is_numbered n) p.registrations → r ≡ None → find (is_numbered n) p.registrations ≡ None
+pub nobody : (p : Protocols) (n : ℕ) (r : Option ℕ) → r ≡ position (is_numbered n) p.registrations → r ≡ None → find (is_numbered n) p.registrations ≡ None
 nobody p n r is none = find_none (is_numbered n) p.registrations (any_none (is_numbered n) p.registrations (sym is ∙ none))
+
+pub somebody : (p : Protocols) (n i : ℕ) (hs : Database) (rs : List Registration) (made : ℕ) (x : Registration) (r : Option ℕ) → record { handles = hs; registrations = rs; made = made } ≡ p → r ≡ position (is_numbered n) p.registrations → r ≡ Some i
+    → x ≡ get_or rs i x → find (is_numbered n) p.registrations ≡ Some x
+somebody p n i hs rs made x r e is some read =
+    let same : rs ≡ p.registrations = ap (λ (q : Protocols). q.registrations) e in
+    find_some (is_numbered n) p.registrations i x (sym is ∙ some) ∙ ap Some (sym (read ∙ ap (λ qs. get_or qs i x) same))
+
+pub found_any : {X : Type 0} (test : X → Bool) (xs : List X) → is_some (find test xs) ≡ list_any test xs
+found_any test [] = refl
+found_any test (x ∷ xs) = by (test x) (found_any test xs)
+  where
+    by : (b : Bool) → is_some (find test xs) ≡ list_any test xs → is_some (if b then Some x else find test xs) ≡ (b || list_any test xs)
+    by true more = refl
+    by false more = more
 
 pub none_first : (p : Protocols) (n : ℕ) (r : Option ℕ) → r ≡ position (is_numbered n) p.registrations → r ≡ None → None ≡ first_pending p n
 unfolding first_pending
@@ -162,11 +177,7 @@ none_taken p n r is none = ap (λ rs. record p { registrations = rs }) (sym (unc
 pub some_first : (p : Protocols) (n i : ℕ) (hs : Database) (rs : List Registration) (made : ℕ) (x : Registration) (r answer : Option ℕ) → record { handles = hs; registrations = rs; made = made } ≡ p → r ≡ position (is_numbered n) p.registrations → r ≡ Some i
     → x ≡ get_or rs i x → answer ≡ slice_get x.pending 0 → answer ≡ first_pending p n
 unfolding first_pending
-some_first p n i hs rs made x r answer e is some read gives =
-    let place : position (is_numbered n) p.registrations ≡ Some i = sym is ∙ some in
-    let same : rs ≡ p.registrations = ap (λ (q : Protocols). q.registrations) e in
-    let there : x ≡ get_or p.registrations i x = read ∙ ap (λ qs. get_or qs i x) same in
-    rw (find_some (is_numbered n) p.registrations i x place) (gives ∙ ap (λ (q : Registration). slice_get q.pending 0) there)
+some_first p n i hs rs made x r answer e is some read gives = rw (somebody p n i hs rs made x r e is some read) gives
 
 pub some_taken : (p : Protocols) (n i : ℕ) (hs : Database) (rs : List Registration) (made : ℕ) (x y : Registration) (r : Option ℕ) → record { handles = hs; registrations = rs; made = made } ≡ p → r ≡ position (is_numbered n) p.registrations → r ≡ Some i
     → x ≡ get_or rs i x → y ≡ record x { pending = drop 1 x.pending } → record { handles = hs; registrations = set rs i y; made = made } ≡ first_taken p n

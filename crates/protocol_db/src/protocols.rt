@@ -299,9 +299,7 @@ impl Protocols {
     pub fn registered(&self, registration: u64) -> bool
         ensures { result ≡ list_any (is_numbered registration) self.now.registrations }
     {
-        self.registrations
-            .iter()
-            .any(|entry| entry.number() == registration)
+        self.find(registration).is_some()
     }
 
     /// The handle that is pending longest for a registration, which stays pending. None exactly where none is.
@@ -319,18 +317,23 @@ impl Protocols {
     fn find(&self, registration: u64) -> Option<&RegistrationEntry>
         ensures { option_copied result ≡ find (is_numbered registration) self.now.registrations }
     {
-        self.registrations
-            .iter()
-            .find(|entry| entry.number() == registration)
+        match self.place(registration) {
+            None => None,
+            Some(place) => Some(&self.registrations[place]),
+        }
     }
 
     /// The place of a registration.
     fn place(&self, registration: u64) -> Option<usize>
         ensures { result ≡ position (is_numbered registration) self.now.registrations }
     {
-        self.registrations
-            .iter()
-            .position(|entry| entry.number() == registration)
+        match self
+            .registrations
+            .binary_search_by_key(&registration, |entry| entry.number())
+        {
+            Ok(place) => Some(place),
+            Err(_) => None,
+        }
     }
 
     /// The handle that is pending longest for a registration, pending no more. None exactly where none is, and then
