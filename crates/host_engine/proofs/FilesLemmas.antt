@@ -1,6 +1,6 @@
 -- The files of a command, one read after the other.
 use Rattle.std.proofs.Common.{◌≡◌, ◌≤◌, ℕ, Bool, true, List, Option, Result, Ok, Err, sym, subst, inl, inr, refl}
-use Rattle.uh_base.specs.Told.{FileMap, HasFile, GrownByPart}
+use Rattle.uh_base.specs.Told.{FileMap, GrownByPart}
 use Rattle.host_script.specs.declared.script.Script.{Script}
 use Rattle.host_script.specs.declared.script.ImageSpec.{ImageSpec}
 use Rattle.host_script.specs.declared.script.Step.{Step}
@@ -17,13 +17,13 @@ use Rattle.host_engine.specs.InputGives.{SourcesGive, InputsGive}
 use Rattle.host_engine.specs.Inputs.{HasSources, inputs_of}
 use Rattle.host_engine.specs.Jobs.{bytes_of}
 use Rattle.host_engine.specs.Outside.{outside}
-use Rattle.host_engine.specs.Prints.{IsRead, Scripted, Sourced, Ready}
-use Rattle.host_engine.specs.Refusals.{FileGives, FileOf}
+use Rattle.host_engine.specs.Prints.{Scripted, Sourced, Ready}
+use Rattle.host_engine.specs.Refusals.{FileOf}
 use Rattle.host_engine.specs.ScriptGives.{ScriptGives}
 use Rattle.guest_build.specs.Faults.{Place}
 use Rattle.host_engine.specs.Limits.{script_limit, code_limit}
 use Rattle.host_engine.specs.ScriptRuns.{run_of, Ran}
-use Rattle.host_engine.specs.Words.{Command, Help, Version, Flat, Build, Run}
+use Rattle.host_engine.specs.Words.{Build, Run}
 use Rattle.host_engine.proofs.InputLemmas.{reads_fail, rose_from, is_longer}
 
 -- the script was not had

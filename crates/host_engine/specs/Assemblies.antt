@@ -1,5 +1,5 @@
 -- Texts that are assembled, and what is said of those that aren't.
-use Rattle.std.specs.Prelude.{ℕ, ◌++◌, ◌∷◌, List, Result, Ok, Err, if◌then◌else◌}
+use Rattle.std.specs.Prelude.{ℕ, ◌++◌, ◌∷◌, List, Result, Err, if◌then◌else◌}
 use Rattle.std.specs.Fmt.{decimal}
 use Rattle.std.specs.Str.{is_utf8}
 use Rattle.guest_build.specs.Assembled.{assembled}

@@ -4,10 +4,8 @@ use Rattle.uh_base.specs.Counts.{Rose}
 use Rattle.uh_base.specs.Told.{FileMap, Lacks, IsLonger, grown, GrownByPart}
 use Rattle.host_engine.specs.declared.refusal.Refusal.{Refusal}
 use Rattle.host_engine.specs.declared.refusal.Refusal.TheVariants as why
-use Rattle.host_engine.specs.declared.script_run.Input.{Input}
 use Rattle.host_engine.specs.declared.status.Status.{Status}
 use Rattle.host_engine.specs.declared.status.Status.TheVariants.{Done, Halted, Words, Script, Read, Size, Write, Memory, Assembly}
-use Rattle.host_engine.specs.Inputs.{inputs_of}
 use Rattle.host_engine.specs.Outside.{Outside}
 use Rattle.host_engine.specs.Prints.{Prints, IsRead, IsRefused, IsNotAssembled}
 use Rattle.host_engine.specs.Words.{Command, Help, Version, Flat, Build, Run}

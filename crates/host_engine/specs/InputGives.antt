@@ -7,11 +7,10 @@ use Rattle.host_script.specs.declared.script.Origin.{Origin}
 use Rattle.host_script.specs.declared.script.Origin.TheVariants.{File}
 use Rattle.host_engine.specs.declared.inputs.Code.{Code}
 use Rattle.host_engine.specs.declared.inputs.Source.{Source}
-use Rattle.host_engine.specs.declared.script_run.Input.{Input}
 use Rattle.host_engine.specs.declared.refusal.Refusal.{Refusal}
 use Rattle.host_engine.specs.declared.refusal.Refusal.TheVariants.{Read, Size, Script, Assembly, Write, Memory}
 use Rattle.host_engine.specs.Limits.{code_limit}
-use Rattle.host_engine.specs.Inputs.{HasCode, HasSources, IsFileOf, inputs_of}
+use Rattle.host_engine.specs.Inputs.{HasCode, HasSources, IsFileOf}
 
 -- `faults` and `longs` are the counts before the read, and the others those behind it.
 abbrev pub SourceGives : Result Code Refusal → Origin → Option FileMap → (faults longs faults' longs' : ℕ) → Type 0

@@ -1,5 +1,5 @@
 -- What a command prints over the files that it reads, how it ends, and why it is refused.
-use Rattle.std.specs.Prelude.{ℕ, ◌≡◌, ◌≤◌, ◌⊎◌, ◌++◌, ◌∷◌, List, length, Bool, true, false, Option, Some, Result, Ok, Err}
+use Rattle.std.specs.Prelude.{ℕ, ◌≡◌, ◌⊎◌, ◌++◌, ◌∷◌, List, Bool, true, false, Option, Ok, Err}
 use Rattle.std.specs.Fmt.{decimal}
 use Rattle.rv_step.specs.declared.ends.Trap.TheVariants.{Ebreak, Illegal, Ecall, Fault}
 use Rattle.uh_base.specs.Told.{FileMap}

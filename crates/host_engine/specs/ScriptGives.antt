@@ -3,7 +3,7 @@ use Rattle.std.specs.Prelude.{ℕ, ◌≡◌, ◌⊎◌, List, Option, Result, O
 use Rattle.uh_base.specs.Counts.{Rose}
 use Rattle.uh_base.specs.Told.{FileMap, Lacks, IsLonger}
 use Rattle.host_script.specs.Faults.{Place}
-use Rattle.host_script.specs.Script.{plain, is_ram_base, script_in}
+use Rattle.host_script.specs.Script.{plain, script_in}
 use Rattle.host_script.specs.declared.script.Script.{Script}
 use Rattle.host_engine.specs.declared.refusal.Refusal.{Refusal}
 use Rattle.host_engine.specs.declared.refusal.Refusal.TheVariants as why

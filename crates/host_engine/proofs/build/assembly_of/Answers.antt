@@ -1,11 +1,10 @@
-use Rattle.std.proofs.Common.{◌≡◌, List, ℕ, Vec, Global, Err, refl, sym, inl, inr}
+use Rattle.std.proofs.Common.{◌≡◌, List, ℕ, Err, refl, sym, inl, inr}
 use Rattle.std.proofs.lemmas.Bool.{cases_Bool}
 use Rattle.std.proofs.lemmas.Str.{IsUtf8-from_is_utf8, is_utf8-from_IsUtf8}
 use Rattle.std.specs.Str.{is_utf8, IsUtf8}
 use Rattle.guest_build.specs.Assembled.{assembled}
 use Rattle.guest_build.specs.declared.fault.AsmKind.TheVariants.{Word}
 use Rattle.host_engine.specs.Assemblies.{assembled_file}
-use Rattle.host_engine.specs.BuildGives.{IsWhy, AssemblyGives}
 use Rattle.host_engine.proofs.build.assembly_of.Goals as goal
 
 is_text : (file text : List ℕ) → text ≡ file → IsUtf8 file → assembled text ≡ assembled_file file

@@ -1,4 +1,4 @@
-use Rattle.std.proofs.Common.{◌≡◌, sym, refl}
+use Rattle.std.proofs.Common.{sym, refl}
 use Rattle.host_engine.specs.Limits.{code_limit}
 use Rattle.host_engine.specs.Refusals.{FileOf}
 use Rattle.host_engine.proofs.FilesLemmas.{not_assembled}

@@ -1,4 +1,4 @@
-use Rattle.std.proofs.Common.{◌≡◌, sym, refl}
+use Rattle.std.proofs.Common.{sym, refl}
 use Rattle.host_engine.specs.Lines.{flat_text}
 use Rattle.host_engine.proofs.flat.flat.Goals as goal
 

@@ -1,4 +1,4 @@
-use Rattle.std.proofs.Common.{◌∙◌, ℕ, Vec, Global, refl, arith}
+use Rattle.std.proofs.Common.{◌∙◌, Vec, Global, refl, arith}
 use Rattle.host_engine.specs.declared.inputs.Source.{Source}
 use Rattle.host_engine.proofs.InputLemmas.{goes_on, all_read, not_read, has_code}
 use Rattle.host_engine.proofs.inputs.read_sources.Goals as goal

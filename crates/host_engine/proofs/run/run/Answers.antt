@@ -1,4 +1,4 @@
-use Rattle.std.proofs.Common.{Vec, ℕ, List, Global, true, false, sym, inr}
+use Rattle.std.proofs.Common.{Vec, Global, true, false, sym, inr}
 use Rattle.host_engine.specs.declared.inputs.Source.{Source}
 use Rattle.host_engine.specs.declared.script_run.Input.{Input}
 use Rattle.host_engine.proofs.FilesLemmas.{no_script, no_sources, no_inputs, sourced, ram_base_is, ran_whole, ran_part}
