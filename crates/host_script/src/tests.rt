@@ -26,65 +26,63 @@ fn compare(
     Ok(())
 }
 
+/// Top tables, each with its fault.
+const DOCUMENTS: [(&str, u32, ScriptKind); 26] = [
+    ("", 0, ScriptKind::Missing),
+    ("# a comment alone\n", 0, ScriptKind::Missing),
+    ("[[step", 0, ScriptKind::Text),
+    ("step = 1\nstep = 2\n", 0, ScriptKind::Text),
+    ("step = 9223372036854775808\n", 0, ScriptKind::Text),
+    ("steps = 1\n", 0, ScriptKind::Key),
+    ("\"\" = 1\n", 0, ScriptKind::Key),
+    (
+        "trace = true\n[[step]]\ndo = \"load\"\n",
+        0,
+        ScriptKind::Key,
+    ),
+    ("image = 3\n", 0, ScriptKind::Shape),
+    ("image = 2024-01-01\n", 0, ScriptKind::Shape),
+    ("image = [1]\n", 0, ScriptKind::Shape),
+    ("image = [{}, 1]\nstep = 3\n", 0, ScriptKind::Shape),
+    (
+        "[image]\nname = \"a\"\nfile = \"f\"\n",
+        0,
+        ScriptKind::Shape,
+    ),
+    ("image = 3\nother = 1\n", 0, ScriptKind::Key),
+    ("ram_base = 0x40000000\nstep = 3\n", 0, ScriptKind::Shape),
+    (
+        "ram_base = \"0x40000800\"\nstep = 3\n",
+        0,
+        ScriptKind::Value,
+    ),
+    ("ram_base = \"0xff000\"\nstep = 3\n", 0, ScriptKind::Value),
+    (
+        "ram_base = \"0x3fffff001000\"\nstep = 3\n",
+        0,
+        ScriptKind::Value,
+    ),
+    ("ram_base = \"4G\"\nimage = 3\n", 0, ScriptKind::Value),
+    ("ram_base = \"0x100000\"\nstep = 3\n", 0, ScriptKind::Shape),
+    ("step = []\n", 0, ScriptKind::Missing),
+    ("step = 3\n", 0, ScriptKind::Shape),
+    ("step = [\"load\"]\n", 0, ScriptKind::Shape),
+    ("[step]\ndo = \"load\"\n", 0, ScriptKind::Shape),
+    (
+        "image = [{},{},{},{},{},{},{},{},{},{},{},{},{},{},{},{},{}]\n",
+        0,
+        ScriptKind::Count,
+    ),
+    (
+        "image = [{},{},{},{},{},{},{},{},{},{},{},{},{},{},{},{},1]\n",
+        0,
+        ScriptKind::Shape,
+    ),
+];
+
 #[test]
 fn faults_of_the_document(rt: HostRuntime) -> Result<(), Fail> {
-    compare(
-        &rt,
-        rt.alloc(),
-        "",
-        &[
-            ("", 0, ScriptKind::Missing),
-            ("# a comment alone\n", 0, ScriptKind::Missing),
-            ("[[step", 0, ScriptKind::Text),
-            ("step = 1\nstep = 2\n", 0, ScriptKind::Text),
-            ("step = 9223372036854775808\n", 0, ScriptKind::Text),
-            ("steps = 1\n", 0, ScriptKind::Key),
-            ("\"\" = 1\n", 0, ScriptKind::Key),
-            (
-                "trace = true\n[[step]]\ndo = \"load\"\n",
-                0,
-                ScriptKind::Key,
-            ),
-            ("image = 3\n", 0, ScriptKind::Shape),
-            ("image = 2024-01-01\n", 0, ScriptKind::Shape),
-            ("image = [1]\n", 0, ScriptKind::Shape),
-            ("image = [{}, 1]\nstep = 3\n", 0, ScriptKind::Shape),
-            (
-                "[image]\nname = \"a\"\nfile = \"f\"\n",
-                0,
-                ScriptKind::Shape,
-            ),
-            ("image = 3\nother = 1\n", 0, ScriptKind::Key),
-            ("ram_base = 0x40000000\nstep = 3\n", 0, ScriptKind::Shape),
-            (
-                "ram_base = \"0x40000800\"\nstep = 3\n",
-                0,
-                ScriptKind::Value,
-            ),
-            ("ram_base = \"0xff000\"\nstep = 3\n", 0, ScriptKind::Value),
-            (
-                "ram_base = \"0x3fffff001000\"\nstep = 3\n",
-                0,
-                ScriptKind::Value,
-            ),
-            ("ram_base = \"4G\"\nimage = 3\n", 0, ScriptKind::Value),
-            ("ram_base = \"0x100000\"\nstep = 3\n", 0, ScriptKind::Shape),
-            ("step = []\n", 0, ScriptKind::Missing),
-            ("step = 3\n", 0, ScriptKind::Shape),
-            ("step = [\"load\"]\n", 0, ScriptKind::Shape),
-            ("[step]\ndo = \"load\"\n", 0, ScriptKind::Shape),
-            (
-                "image = [{},{},{},{},{},{},{},{},{},{},{},{},{},{},{},{},{}]\n",
-                0,
-                ScriptKind::Count,
-            ),
-            (
-                "image = [{},{},{},{},{},{},{},{},{},{},{},{},{},{},{},{},1]\n",
-                0,
-                ScriptKind::Shape,
-            ),
-        ],
-    )?;
+    compare(&rt, rt.alloc(), "", &DOCUMENTS)?;
     let fault = read_script(rt.alloc(), b"\xff").err();
     let wanted = Some(ScriptFault::At {
         step: 0,
@@ -94,139 +92,135 @@ fn faults_of_the_document(rt: HostRuntime) -> Result<(), Fail> {
     Ok(())
 }
 
+/// Images before a step, each with its fault.
+const IMAGES: [(&str, u32, ScriptKind); 13] = [
+    ("[[image]]\n", 0, ScriptKind::Missing),
+    ("[[image]]\nfile = \"f\"\n", 0, ScriptKind::Missing),
+    ("[[image]]\nname = \"a\"\n", 0, ScriptKind::Missing),
+    ("[[image]]\nname = \"a\"\ntext = 1\n", 0, ScriptKind::Shape),
+    (
+        "[[image]]\nname = \"a\"\nfile = \"f\"\ntext = \"start: ret\"\n",
+        0,
+        ScriptKind::Shape,
+    ),
+    (
+        "[[image]]\nname = \"a\"\nfile = \"f\"\npath = 1\n",
+        0,
+        ScriptKind::Key,
+    ),
+    ("[[image]]\npath = 1\n", 0, ScriptKind::Key),
+    ("[[image]]\nname = 1\nfile = 2\n", 0, ScriptKind::Shape),
+    ("[[image]]\nname = \"\"\nfile = 2\n", 0, ScriptKind::Value),
+    (
+        "[[image]]\nname = \"App\"\nfile = \"f\"\n",
+        0,
+        ScriptKind::Value,
+    ),
+    (
+        "[[image]]\nname = \"abcdefghijklmnopqrstuvwxyz0123456\"\nfile = \"f\"\n",
+        0,
+        ScriptKind::Value,
+    ),
+    (
+        "[[image]]\nname = \"a\"\nfile = [\"f\"]\n",
+        0,
+        ScriptKind::Shape,
+    ),
+    (
+        "[[image]]\nname = \"a\"\nfile = \"f\"\n[[image]]\nname = \"a\"\nfile = 1\n",
+        0,
+        ScriptKind::Name,
+    ),
+];
+
 #[test]
 fn faults_of_images(rt: HostRuntime) -> Result<(), Fail> {
-    compare(
-        &rt,
-        rt.alloc(),
-        "step = [{ do = 1 }]\n",
-        &[
-            ("[[image]]\n", 0, ScriptKind::Missing),
-            ("[[image]]\nfile = \"f\"\n", 0, ScriptKind::Missing),
-            ("[[image]]\nname = \"a\"\n", 0, ScriptKind::Missing),
-            ("[[image]]\nname = \"a\"\ntext = 1\n", 0, ScriptKind::Shape),
-            (
-                "[[image]]\nname = \"a\"\nfile = \"f\"\ntext = \"start: ret\"\n",
-                0,
-                ScriptKind::Shape,
-            ),
-            (
-                "[[image]]\nname = \"a\"\nfile = \"f\"\npath = 1\n",
-                0,
-                ScriptKind::Key,
-            ),
-            ("[[image]]\npath = 1\n", 0, ScriptKind::Key),
-            ("[[image]]\nname = 1\nfile = 2\n", 0, ScriptKind::Shape),
-            ("[[image]]\nname = \"\"\nfile = 2\n", 0, ScriptKind::Value),
-            (
-                "[[image]]\nname = \"App\"\nfile = \"f\"\n",
-                0,
-                ScriptKind::Value,
-            ),
-            (
-                "[[image]]\nname = \"abcdefghijklmnopqrstuvwxyz0123456\"\nfile = \"f\"\n",
-                0,
-                ScriptKind::Value,
-            ),
-            (
-                "[[image]]\nname = \"a\"\nfile = [\"f\"]\n",
-                0,
-                ScriptKind::Shape,
-            ),
-            (
-                "[[image]]\nname = \"a\"\nfile = \"f\"\n[[image]]\nname = \"a\"\nfile = 1\n",
-                0,
-                ScriptKind::Name,
-            ),
-        ],
-    )
+    compare(&rt, rt.alloc(), "step = [{ do = 1 }]\n", &IMAGES)
 }
+
+/// Steps behind one image, each with its fault.
+const STEPS: [(&str, u32, ScriptKind); 20] = [
+    ("[[step]]\n", 1, ScriptKind::Missing),
+    (
+        "[[step]]\nimage = \"app\"\nother = 1\n",
+        1,
+        ScriptKind::Missing,
+    ),
+    ("[[step]]\ndo = 1\nother = 1\n", 1, ScriptKind::Shape),
+    ("[[step]]\ndo = \"Load\"\nother = 1\n", 1, ScriptKind::Value),
+    ("[[step]]\ndo = \"peek\"\n", 1, ScriptKind::Value),
+    (
+        "[[step]]\ndo = \"load\"\nimage = \"app\"\nbound = 5\n",
+        1,
+        ScriptKind::Key,
+    ),
+    ("[[step]]\ndo = \"load\"\n", 1, ScriptKind::Missing),
+    ("[[step]]\ndo = \"load\"\nimage = 3\n", 1, ScriptKind::Shape),
+    (
+        "[[step]]\ndo = \"load\"\nimage = 2024-01-01\n",
+        1,
+        ScriptKind::Shape,
+    ),
+    (
+        "[[step]]\ndo = \"load\"\nimage = \"a-b\"\n",
+        1,
+        ScriptKind::Value,
+    ),
+    (
+        "[[step]]\ndo = \"load\"\nimage = \"drv\"\n",
+        1,
+        ScriptKind::Name,
+    ),
+    (
+        "[[step]]\ndo = \"load\"\nimage = \"app\"\n[[step]]\ndo = \"start\"\nimage = \"b\"\nbound = 0\n",
+        2,
+        ScriptKind::Name,
+    ),
+    (
+        "[[step]]\ndo = \"start\"\nimage = \"app\"\nbound = 0\n",
+        1,
+        ScriptKind::Value,
+    ),
+    (
+        "[[step]]\ndo = \"start\"\nimage = \"app\"\nbound = -1\n",
+        1,
+        ScriptKind::Value,
+    ),
+    (
+        "[[step]]\ndo = \"start\"\nimage = \"app\"\nbound = 50000001\n",
+        1,
+        ScriptKind::Value,
+    ),
+    (
+        "[[step]]\ndo = \"start\"\nimage = \"app\"\nbound = \"5\"\n",
+        1,
+        ScriptKind::Shape,
+    ),
+    (
+        "[[step]]\ndo = \"start\"\nimage = \"app\"\nbound = 1.5\n",
+        1,
+        ScriptKind::Shape,
+    ),
+    (
+        "[[step]]\ndo = \"start\"\nimage = \"app\"\nbound = true\n",
+        1,
+        ScriptKind::Shape,
+    ),
+    (
+        "[[step]]\ndo = \"start\"\nimage = \"app\"\nbound = 5\nsteps = 5\n",
+        1,
+        ScriptKind::Key,
+    ),
+    (
+        "[[step]]\ndo = \"start\"\nimage = \"app\"\n[[step]]\ndo = \"load\"\nimage = \"app\"\n[[step]]\ndo = 1\n",
+        3,
+        ScriptKind::Shape,
+    ),
+];
 
 #[test]
 fn faults_of_steps(rt: HostRuntime) -> Result<(), Fail> {
-    compare(
-        &rt,
-        rt.alloc(),
-        IMAGE,
-        &[
-            ("[[step]]\n", 1, ScriptKind::Missing),
-            (
-                "[[step]]\nimage = \"app\"\nother = 1\n",
-                1,
-                ScriptKind::Missing,
-            ),
-            ("[[step]]\ndo = 1\nother = 1\n", 1, ScriptKind::Shape),
-            ("[[step]]\ndo = \"Load\"\nother = 1\n", 1, ScriptKind::Value),
-            ("[[step]]\ndo = \"peek\"\n", 1, ScriptKind::Value),
-            (
-                "[[step]]\ndo = \"load\"\nimage = \"app\"\nbound = 5\n",
-                1,
-                ScriptKind::Key,
-            ),
-            ("[[step]]\ndo = \"load\"\n", 1, ScriptKind::Missing),
-            ("[[step]]\ndo = \"load\"\nimage = 3\n", 1, ScriptKind::Shape),
-            (
-                "[[step]]\ndo = \"load\"\nimage = 2024-01-01\n",
-                1,
-                ScriptKind::Shape,
-            ),
-            (
-                "[[step]]\ndo = \"load\"\nimage = \"a-b\"\n",
-                1,
-                ScriptKind::Value,
-            ),
-            (
-                "[[step]]\ndo = \"load\"\nimage = \"drv\"\n",
-                1,
-                ScriptKind::Name,
-            ),
-            (
-                "[[step]]\ndo = \"load\"\nimage = \"app\"\n[[step]]\ndo = \"start\"\nimage = \"b\"\nbound = 0\n",
-                2,
-                ScriptKind::Name,
-            ),
-            (
-                "[[step]]\ndo = \"start\"\nimage = \"app\"\nbound = 0\n",
-                1,
-                ScriptKind::Value,
-            ),
-            (
-                "[[step]]\ndo = \"start\"\nimage = \"app\"\nbound = -1\n",
-                1,
-                ScriptKind::Value,
-            ),
-            (
-                "[[step]]\ndo = \"start\"\nimage = \"app\"\nbound = 50000001\n",
-                1,
-                ScriptKind::Value,
-            ),
-            (
-                "[[step]]\ndo = \"start\"\nimage = \"app\"\nbound = \"5\"\n",
-                1,
-                ScriptKind::Shape,
-            ),
-            (
-                "[[step]]\ndo = \"start\"\nimage = \"app\"\nbound = 1.5\n",
-                1,
-                ScriptKind::Shape,
-            ),
-            (
-                "[[step]]\ndo = \"start\"\nimage = \"app\"\nbound = true\n",
-                1,
-                ScriptKind::Shape,
-            ),
-            (
-                "[[step]]\ndo = \"start\"\nimage = \"app\"\nbound = 5\nsteps = 5\n",
-                1,
-                ScriptKind::Key,
-            ),
-            (
-                "[[step]]\ndo = \"start\"\nimage = \"app\"\n[[step]]\ndo = \"load\"\nimage = \"app\"\n[[step]]\ndo = 1\n",
-                3,
-                ScriptKind::Shape,
-            ),
-        ],
-    )
+    compare(&rt, rt.alloc(), IMAGE, &STEPS)
 }
 
 #[test]
