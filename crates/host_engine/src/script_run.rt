@@ -65,6 +65,17 @@ fn load_file(
     }
 }
 
+/// A name once more.
+fn copy_of(alloc: Global, name: &Text) -> Result<Text, Stop>
+    ensures same { IfOk result (λ copy. copy ≡ name.now) }
+    ensures memory { OnErr result (result ≡ Err Stop.Memory) }
+{
+    match Text::new(alloc, name.as_str()) {
+        Ok(copy) => Ok(copy),
+        Err(_) => Err(Stop::Memory),
+    }
+}
+
 /// Puts the line of a load.
 fn put_load<O: Sink>(
     alloc: Global,
@@ -79,10 +90,7 @@ fn put_load<O: Sink>(
     ensures cause { result ≡ Err Stop.Write → Rose (O.faults out.old) (O.faults out.new) }
     ensures never_falls { O.faults out.old ≤ O.faults out.new }
 {
-    let name = match Text::new(alloc, name.as_str()) {
-        Ok(name) => name,
-        Err(_) => return Err(Stop::Memory),
-    };
+    let name = copy_of(alloc, name)?;
     put_line(
         alloc,
         &Line::Load {
@@ -108,10 +116,7 @@ fn put_start<O: Sink>(
     ensures cause { result ≡ Err Stop.Write → Rose (O.faults out.old) (O.faults out.new) }
     ensures never_falls { O.faults out.old ≤ O.faults out.new }
 {
-    let name = match Text::new(alloc, name.as_str()) {
-        Ok(name) => name,
-        Err(_) => return Err(Stop::Memory),
-    };
+    let name = copy_of(alloc, name)?;
     put_line(
         alloc,
         &Line::Start {
@@ -144,10 +149,7 @@ fn load<O: Sink>(
     };
     let put = match loaded {
         Ok(image) => {
-            running.name = match Text::new(alloc, name.as_str()) {
-                Ok(name) => name,
-                Err(_) => return Err(Stop::Memory),
-            };
+            running.name = copy_of(alloc, name)?;
             put_load(alloc, name, 0, image.base, image.pages, out)
         }
         Err(status) => put_load(alloc, name, status.0, 0, 0, out),
