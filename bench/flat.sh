@@ -1,6 +1,6 @@
 #!/usr/bin/env bash
 # Counts the host instructions that `uefihost flat` takes per guest step, for loops that it makes itself, and
-# the time of a start. It measures and judges nothing; figures seen are in docs/SPEED.md.
+# the time of a start. It measures and judges nothing; figures seen are in docs/speed.md.
 set -euo pipefail
 
 top=$(cd "$(dirname "${BASH_SOURCE[0]}")/.." && pwd)
