@@ -1,6 +1,7 @@
 #!/usr/bin/env bash
-# Counts the host instructions that `uefihost flat` takes per guest step, for loops that it makes itself, and
-# the time of a start. It measures and judges nothing; figures seen are in docs/speed.md.
+# Counts the host instructions that `uefihost flat` takes per guest step, for loops that it makes itself, and times
+# 50,000,000 steps beside bench/plain.c, an interpreter that checks nothing, and a start. It measures and judges
+# nothing; figures seen are in docs/speed.md.
 set -euo pipefail
 
 top=$(cd "$(dirname "${BASH_SOURCE[0]}")/.." && pwd)
@@ -26,6 +27,14 @@ printf '\x37\x35\x00\x00\x1b\x05\x95\x03\x93\x05\x90\xff\x33\x06\xb5\x02\xb3\x46
 # a call, a return, branches and work in between, mostly in 16 bits
 printf '\x01\x44\xef\x00\x20\x01\x05\x04\x93\x75\x34\x00\x91\xc1\x22\x85\x6d\xf8\xc5\xbf\x05\x05\x2a\x96\x11\x8d\x05\x81\x82\x80' >"$work/calls_branches"
 
+# nine additions and a jump to nine more that lie 8 KiB behind them, whose jump leads back
+additions='\x13\x05\x15\x00\x93\x85\x15\x00\x13\x06\x16\x00\x93\x86\x16\x00\x13\x07\x17\x00\x93\x87\x17\x00\x13\x08\x18\x00\x93\x88\x18\x00\x13\x09\x19\x00'
+{
+    printf "$additions\x6f\x10\xd0\x7d"
+    head -c 8152 /dev/zero
+    printf "$additions\x6f\xd0\xdf\xfd"
+} >"$work/far_apart"
+
 # the host instructions of a run of so many steps
 instructions() {
     # a run that ends at its bound has status 1
@@ -33,10 +42,24 @@ instructions() {
         sed -n 's/.*Collected *: *//p'
 }
 
-for loop in addi_jalr ld_sd register_work loads_stores mul_div calls_branches; do
+# the user time of 50,000,000 steps, of the program and of the plain interpreter, which print the same line
+compare() {
+    local TIMEFORMAT='%U' ours theirs
+    ours=$({ time "$program" flat "$work/$1" 50000000 >"$work/line" || true; } 2>&1)
+    theirs=$({ time "$work/plain" "$work/$1" 50000000 >"$work/plain_line" || true; } 2>&1)
+    echo "$1: 50,000,000 steps in $ours s, by the plain interpreter in $theirs s"
+    cmp "$work/line" "$work/plain_line"
+}
+
+for loop in addi_jalr ld_sd register_work loads_stores mul_div calls_branches far_apart; do
     few=$(instructions "$work/$loop" 1000)
     many=$(instructions "$work/$loop" 1001000)
     echo "$loop: $(((many - few) / 1000000)) host instructions a step"
+done
+
+cc -O2 -o "$work/plain" "$top/bench/plain.c"
+for loop in addi_jalr ld_sd register_work loads_stores mul_div calls_branches far_apart; do
+    compare "$loop"
 done
 
 printf '\x73\x00\x10\x00' >"$work/ebreak"
