@@ -1,9 +1,13 @@
 -- A GUID and its sixteen bytes give each other back.
-use Rattle.std.proofs.Common.{◌≡◌, ℕ, zero, suc, ◌<◌, List, [], ◌∷◌, ◌++◌, length, take, drop, get_or, refl, sym, ap, ◌∙◌, arith}
+use Rattle.std.proofs.Common.{◌≡◌, ℕ, zero, suc, ◌<◌, List, [], ◌∷◌, ◌++◌, length, take, drop, get_or, refl, sym, ap, ◌∙◌, arith, inl, inr}
+use Rattle.std.specs.List.{All}
 use Rattle.std.specs.Int.{w16, w32, w64, from_be_bytes, to_be_bytes, from_le_bytes, to_le_bytes}
 use Rattle.std.proofs.lemmas.Nat.{from_le_bytes-to_le_bytes_2, from_le_bytes-to_le_bytes_4, from_be_bytes-to_be_bytes_8, le_bytes_2, le_bytes_4, be_bytes_8}
 use Rattle.std.proofs.lemmas.Slice.Eq.{text_from_reads}
-use Rattle.uh_base.specs.Guid.{bytes_of, IsGuid}
+use Rattle.std.proofs.lemmas.List.{get_or_past}
+use Rattle.std.proofs.lemmas.List.Elements.{All-get_or}
+use Rattle.std.proofs.lemmas.Bool.{cases_lt}
+use Rattle.uh_base.specs.Guid.{bytes_of, guid_of, IsGuid}
 use Rattle.uh_base.specs.declared.guid.Guid.{Guid}
 
 -- sixteen bytes, one by one
@@ -24,6 +28,13 @@ cons b bs h all = λ i. at i
 
 none : AreBytes []
 none = λ i. omega arith
+
+are_bytes : (bs : List ℕ) → All (λ b. b < 256) bs → AreBytes bs
+are_bytes bs all = λ i.
+    elim (cases_lt i (length bs)) [
+      | inl inside ↦ All-get_or (λ (b : ℕ). b < 256) bs i 0 inside all
+      | inr past ↦ (let e = get_or_past bs i 0 past in omega (arith, e))
+    ]
 
 two : (a b n : ℕ) → a < 256 → b < 256 → n ≡ from_le_bytes w16 (a ∷ b ∷ []) → to_le_bytes w16 n ≡ a ∷ b ∷ []
 two a b n p q e = le_bytes_2 (a ∷ b ∷ []) n refl (cons a (b ∷ []) p (cons b [] q none)) e
@@ -72,12 +83,26 @@ fourth : (g : Guid) → IsGuid g → from_be_bytes w64 (drop 8 (bytes_of g)) ≡
 unfolding bytes_of
 fourth g fits = from_be_bytes-to_be_bytes_8 g.d4 fits.d4
 
--- Two GUIDs of the same bytes are one.
-pub same : (g h : Guid) → IsGuid g → IsGuid h → bytes_of g ≡ bytes_of h → g ≡ h
-same g h p q e =
-    let a : g.d1 ≡ h.d1 = sym (first g p) ∙ ap (λ bs. from_le_bytes w32 (take 4 bs)) e ∙ first h q in
-    let b : g.d2 ≡ h.d2 = sym (second g p) ∙ ap (λ bs. from_le_bytes w16 (take 2 (drop 4 bs))) e ∙ second h q in
-    let c : g.d3 ≡ h.d3 = sym (third g p) ∙ ap (λ bs. from_le_bytes w16 (take 2 (drop 6 bs))) e ∙ third h q in
-    let d : g.d4 ≡ h.d4 = sym (fourth g p) ∙ ap (λ bs. from_be_bytes w64 (drop 8 bs)) e ∙ fourth h q in
-    let G : ℕ → ℕ → ℕ → ℕ → Guid = λ d1 d2 d3 d4. record { d1 = d1; d2 = d2; d3 = d3; d4 = d4 } in
-    ap (λ x. G x g.d2 g.d3 g.d4) a ∙ ap (λ x. G h.d1 x g.d3 g.d4) b ∙ ap (λ x. G h.d1 h.d2 x g.d4) c ∙ ap (λ x. G h.d1 h.d2 h.d3 x) d
+alike : (a b c d e f g h : ℕ) → a ≡ e → b ≡ f → c ≡ g → d ≡ h
+    → (let guid : Guid = record { d1 = a; d2 = b; d3 = c; d4 = d } in let other : Guid = record { d1 = e; d2 = f; d3 = g; d4 = h } in guid ≡ other)
+alike a b c d e f g h p q r s = cc
+
+pub value : (bs : List ℕ) → length bs ≡ 16 → (d1 d2 d3 d4 : ℕ)
+    → d1 ≡ from_le_bytes w32 (get_or bs 0 0 ∷ get_or bs 1 0 ∷ get_or bs 2 0 ∷ get_or bs 3 0 ∷ [])
+    → d2 ≡ from_le_bytes w16 (get_or bs 4 0 ∷ get_or bs 5 0 ∷ [])
+    → d3 ≡ from_le_bytes w16 (get_or bs 6 0 ∷ get_or bs 7 0 ∷ [])
+    → d4 ≡ from_be_bytes w64 (get_or bs 8 0 ∷ get_or bs 9 0 ∷ get_or bs 10 0 ∷ get_or bs 11 0 ∷ get_or bs 12 0 ∷ get_or bs 13 0 ∷ get_or bs 14 0 ∷ get_or bs 15 0 ∷ [])
+    → record { d1 = d1; d2 = d2; d3 = d3; d4 = d4 } ≡ guid_of bs
+unfolding guid_of
+value bs len d1 d2 d3 d4 e1 e2 e3 e4 = alike d1 d2 d3 d4 _ _ _ _ e1 e2 e3 e4 ∙ sym (ap guid_of (sixteen bs len))
+
+-- a GUID from its bytes
+pub guid_again : (g : Guid) → IsGuid g → guid_of (bytes_of g) ≡ g
+unfolding guid_of
+guid_again g fits = alike _ _ _ _ _ _ _ _ (first g fits) (second g fits) (third g fits) (fourth g fits)
+
+-- bytes from their GUID
+pub bytes_again : (bs : List ℕ) → length bs ≡ 16 → All (λ b. b < 256) bs → bytes_of (guid_of bs) ≡ bs
+bytes_again bs len all =
+    let is = value bs len _ _ _ _ refl refl refl refl in
+    ap bytes_of (sym is) ∙ back bs len (are_bytes bs all) _ _ _ _ refl refl refl refl

@@ -1,3 +1,4 @@
+pub mod Answers
 pub mod Bytes
 pub mod ConsoleText
 pub mod Counts
@@ -5,10 +6,12 @@ pub mod Crc
 pub mod DigitSteps
 pub mod Guid
 pub mod Hex
+pub mod Limits
 pub mod LittleEndian
 pub mod MemFiles
 pub mod MemSink
 pub mod Names
+pub mod Numbered
 pub mod Numbers
 pub mod Statuses
 pub mod Told

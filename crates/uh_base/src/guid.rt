@@ -1,4 +1,9 @@
 //! GUIDs.
+#![tactic(auto)]
+
+ghost use Rattle.std.specs.Prelude.{◌≡◌, ◌<◌, ℕ, List, length, All};
+ghost use Rattle.uh_base.specs.Guid.{bytes_of, guid_of, IsGuid};
+ghost use Rattle.uh_base.specs.declared.guid.Guid.{Guid as AnyGuid};
 
 /// A GUID by its fields, of which `d4` has the last eight bytes, the first of them as its greatest.
 #[derive(Clone, Copy, Debug, PartialEq, Eq)]
@@ -11,8 +16,7 @@ pub struct Guid {
 
 impl Guid {
     ghost use Rattle.std.specs.Prelude.{◌≡◌};
-    ghost use Rattle.uh_base.specs.Guid.{read_of, same_guid, bytes_of, IsGuid};
-    ghost use Rattle.uh_base.specs.declared.guid.Guid.{Guid as AnyGuid};
+    ghost use Rattle.uh_base.specs.Guid.{read_of, same_guid, bytes_of, guid_of};
 
     /// Reads a GUID's text: 32 hexadecimal digits, the form with hyphens, that form in braces, and that form behind
     /// `urn:uuid:`, of either case. None exactly where `uuid` refuses the text.
@@ -56,8 +60,8 @@ impl Guid {
 
     /// The GUID of sixteen bytes in memory.
     pub fn from_bytes(bytes: &[u8; 16]) -> Guid
+        ensures value { result ≡ guid_of bytes.now }
         ensures back { bytes_of result ≡ bytes.now }
-        ensures only { (guid : AnyGuid) → IsGuid guid → bytes_of guid ≡ bytes.now → result ≡ guid }
     {
         let [
             a0,
@@ -85,3 +89,10 @@ impl Guid {
         }
     }
 }
+
+/// A law: a GUID and its sixteen bytes in memory give each other back.
+#[tactic(auto, using(crate::proofs::GuidLemmas::guid_again, crate::proofs::GuidLemmas::bytes_again))]
+pub fn guids_read_back()
+    ensures guid { (guid : AnyGuid) → IsGuid guid → guid_of (bytes_of guid) ≡ guid }
+    ensures bytes { (bytes : List ℕ) → length bytes ≡ 16 → All (λ byte. byte < 256) bytes → bytes_of (guid_of bytes) ≡ bytes }
+{}

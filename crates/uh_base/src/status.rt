@@ -1,4 +1,8 @@
 //! Statuses of UEFI services.
+#![tactic(auto)]
+
+ghost use Rattle.std.specs.Prelude.{◌≡◌};
+ghost use Rattle.uh_base.specs.Statuses.{success, load_error, invalid_parameter, unsupported, buffer_too_small, not_ready, device_error, write_protected, out_of_resources, not_found, access_denied, no_mapping, not_started, already_started, aborted, security_violation, warn_unknown_glyph};
 
 /// The status of a UEFI service: UEFI 2.10, appendix D. An error has bit 63.
 #[derive(Clone, Copy, Debug, PartialEq, Eq)]
@@ -56,3 +60,24 @@ impl EfiStatus {
     /// A warning: a character of a text couldn't be printed.
     pub const WARN_UNKNOWN_GLYPH: EfiStatus = EfiStatus(1);
 }
+
+/// A law: each constant is the number that the standard gives to its status.
+pub fn statuses_are_of_the_standard()
+    ensures success { EfiStatus.SUCCESS ≡ record { 0 = success } }
+    ensures load_error { EfiStatus.LOAD_ERROR ≡ record { 0 = load_error } }
+    ensures invalid_parameter { EfiStatus.INVALID_PARAMETER ≡ record { 0 = invalid_parameter } }
+    ensures unsupported { EfiStatus.UNSUPPORTED ≡ record { 0 = unsupported } }
+    ensures buffer_too_small { EfiStatus.BUFFER_TOO_SMALL ≡ record { 0 = buffer_too_small } }
+    ensures not_ready { EfiStatus.NOT_READY ≡ record { 0 = not_ready } }
+    ensures device_error { EfiStatus.DEVICE_ERROR ≡ record { 0 = device_error } }
+    ensures write_protected { EfiStatus.WRITE_PROTECTED ≡ record { 0 = write_protected } }
+    ensures out_of_resources { EfiStatus.OUT_OF_RESOURCES ≡ record { 0 = out_of_resources } }
+    ensures not_found { EfiStatus.NOT_FOUND ≡ record { 0 = not_found } }
+    ensures access_denied { EfiStatus.ACCESS_DENIED ≡ record { 0 = access_denied } }
+    ensures no_mapping { EfiStatus.NO_MAPPING ≡ record { 0 = no_mapping } }
+    ensures not_started { EfiStatus.NOT_STARTED ≡ record { 0 = not_started } }
+    ensures already_started { EfiStatus.ALREADY_STARTED ≡ record { 0 = already_started } }
+    ensures aborted { EfiStatus.ABORTED ≡ record { 0 = aborted } }
+    ensures security_violation { EfiStatus.SECURITY_VIOLATION ≡ record { 0 = security_violation } }
+    ensures warn_unknown_glyph { EfiStatus.WARN_UNKNOWN_GLYPH ≡ record { 0 = warn_unknown_glyph } }
+{}
