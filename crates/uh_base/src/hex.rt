@@ -1,7 +1,8 @@
 //! Hexadecimal text.
 #![tactic(auto)]
 
-ghost use Rattle.std.specs.Prelude.{◌≡◌, ◌<◌, ◌++◌, IfOk, OnOk, string_bytes};
+ghost use Rattle.std.specs.Prelude.{◌≡◌, ◌<◌, ◌++◌, ℕ, IfOk, OnOk, string_bytes};
+ghost use Rattle.std.specs.Str.{IsUtf8};
 ghost use Rattle.uh_base.specs.Hex.{hex_digits, hex_digit};
 
 use std::alloc::{AllocError, Global};
@@ -26,7 +27,6 @@ pub fn push_hex(text: &mut Vec<u8>, count: u8, n: u64) -> Result<(), AllocError>
 }
 
 /// So many hexadecimal digits of a number in lower case, the most significant first.
-
 pub fn hex_text(alloc: Global, count: u8, n: u64) -> Result<String, AllocError>
     ensures { IfOk result (λ text. string_bytes text ≡ hex_digits count n) }
 {
@@ -37,3 +37,9 @@ pub fn hex_text(alloc: Global, count: u8, n: u64) -> Result<String, AllocError>
         Err(_) => unreachable!(),
     }
 }
+
+/// A law: hexadecimal digits are text.
+#[tactic(auto, using(crate::proofs::HexLemmas::hex_is_text))]
+pub fn hexadecimals_are_text()
+    ensures { (count n : ℕ) → IsUtf8 (hex_digits count n) }
+{}

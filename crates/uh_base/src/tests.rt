@@ -1,7 +1,7 @@
 //! Values from outside, and each call that allocates.
 use crate::{
-    Bytes, FileEnd, Files, Guid, MemFiles, MemSink, Sink, Text, crc32, hex_text, hexadecimal,
-    is_name, number,
+    Bytes, FileEnd, Files, Guid, MemFiles, MemSink, Numbered, Sink, Text, crc32, hex_text,
+    hexadecimal, is_name, number, place_of,
 };
 use std::test::Fail;
 
@@ -170,4 +170,31 @@ fn names(rt: HostRuntime) {
     ] {
         assert!(rt; !is_name(name), "{name}");
     }
+}
+
+#[derive(Drop)]
+struct Item(u64);
+
+impl Numbered for Item {
+    ghost number = { λ item. item.0 };
+
+    fn number(&self) -> u64 {
+        self.0
+    }
+}
+
+#[test]
+fn items_by_number(rt: HostRuntime) {
+    let items = [Item(2), Item(3), Item(7), Item(u64::MAX)];
+    for (number, place) in [
+        (2, Some(0)),
+        (3, Some(1)),
+        (7, Some(2)),
+        (u64::MAX, Some(3)),
+        (0, None),
+        (4, None),
+    ] {
+        assert_eq!(rt; place_of(&items, number), place);
+    }
+    assert!(rt; place_of::<Item>(&[], 2).is_none());
 }
