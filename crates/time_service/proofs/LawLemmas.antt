@@ -14,23 +14,23 @@ use Rattle.time_service.specs.Laws.{IsDate}
 use Rattle.time_service.proofs.DayLemmas.{first_count, date_is}
 use Rattle.time_service.proofs.CodeLemmas.{first_enough}
 use Rattle.time_service.proofs.NumberLemmas.{end_is}
-use Rattle.time_service.proofs.TimeLemmas.{IsTime, parts_of, civil_of, zone_fits}
+use Rattle.time_service.proofs.TimeLemmas.{IsTime, parts_of, civil_of, time_zone_fits}
 
 -- a time by its fields
-pub same_time : (time : EfiTime) (year month day hour minute second nanosecond : ℕ) (zone : ℤ) (daylight : ℕ)
-    → year ≡ time.year → month ≡ time.month → day ≡ time.day → hour ≡ time.hour → minute ≡ time.minute → second ≡ time.second → nanosecond ≡ time.nanosecond → zone ≡ time.zone → daylight ≡ time.daylight
-    → record { year = year; month = month; day = day; hour = hour; minute = minute; second = second; nanosecond = nanosecond; zone = zone; daylight = daylight } ≡ time
-same_time time year month day hour minute second nanosecond zone daylight a b c d e f g h i = rw (a, b, c, d, e, f, g, h, i) refl
+pub same_time : (time : EfiTime) (year month day hour minute second nanosecond : ℕ) (time_zone : ℤ) (daylight : ℕ)
+    → year ≡ time.year → month ≡ time.month → day ≡ time.day → hour ≡ time.hour → minute ≡ time.minute → second ≡ time.second → nanosecond ≡ time.nanosecond → time_zone ≡ time.time_zone → daylight ≡ time.daylight
+    → record { year = year; month = month; day = day; hour = hour; minute = minute; second = second; nanosecond = nanosecond; time_zone = time_zone; daylight = daylight } ≡ time
+same_time time year month day hour minute second nanosecond time_zone daylight a b c d e f g h i = rw (a, b, c, d, e, f, g, h, i) refl
 
-of_z_lt : (zone : ℤ) → FitsSigned w16 zone → cast_unsigned w16 zone < 2 ^ 16
-of_z_lt zone fits = omega (arith, Fits-of_z fits)
+of_z_lt : (time_zone : ℤ) → FitsSigned w16 time_zone → cast_unsigned w16 time_zone < 2 ^ 16
+of_z_lt time_zone fits = omega (arith, Fits-of_z fits)
 
 fields_back : (time : EfiTime) → IsTime time → fields_of (bytes_of time) ≡ time
 unfolding fields_of bytes_of
 fields_back time p =
     let l = p.last in
     let n = p.nanosecond in
-    same_time time _ _ _ _ _ _ _ _ _ (from_le_bytes-to_le_bytes_2 time.year (omega arith)) refl refl refl refl refl (from_le_bytes-to_le_bytes_4 time.nanosecond (omega arith)) (ap (cast_signed w16) (from_le_bytes-to_le_bytes_2 (cast_unsigned w16 time.zone) (of_z_lt time.zone (zone_fits time.zone p.zone))) ∙ to_z-of_z w16 time.zone (zone_fits time.zone p.zone)) refl
+    same_time time _ _ _ _ _ _ _ _ _ (from_le_bytes-to_le_bytes_2 time.year (omega arith)) refl refl refl refl refl (from_le_bytes-to_le_bytes_4 time.nanosecond (omega arith)) (ap (cast_signed w16) (from_le_bytes-to_le_bytes_2 (cast_unsigned w16 time.time_zone) (of_z_lt time.time_zone (time_zone_fits time.time_zone p.time_zone))) ∙ to_z-of_z w16 time.time_zone (time_zone_fits time.time_zone p.time_zone)) refl
 
 pub reads_back : (time : EfiTime) → is_valid time ≡ true → time_of (bytes_of time) ≡ Some time
 unfolding time_of
@@ -45,9 +45,9 @@ number_set : (now : ℕ) (time : EfiTime) → (set_to now time).day ≡ day_numb
 unfolding set_to
 number_set now time = refl
 
-zone_set : (now : ℕ) (time : EfiTime) → (set_to now time).zone ≡ time.zone
+time_zone_set : (now : ℕ) (time : EfiTime) → (set_to now time).time_zone ≡ time.time_zone
 unfolding set_to
-zone_set now time = refl
+time_zone_set now time = refl
 
 daylight_set : (now : ℕ) (time : EfiTime) → (set_to now time).daylight ≡ time.daylight
 unfolding set_to
@@ -76,7 +76,7 @@ shows_what_is_set now time valid =
     let there : (set_to now time).day + nanosecond_of time / nanoseconds_a_day ≡ day_number time.year time.month time.day = rw (whole, number_set now time) (omega arith) in
     let date = dated (record { year = time.year; month = time.month; day = time.day }) (record { first = p.first; last = p.last; civil = p.civil }) in
     rw (since, there, date, rest)
-    (ap Some (same_time time _ _ _ _ _ _ _ _ _ refl refl refl (omega arith) (omega arith) (omega arith) (omega arith) (zone_set now time) (daylight_set now time)))
+    (ap Some (same_time time _ _ _ _ _ _ _ _ _ refl refl refl (omega arith) (omega arith) (omega arith) (omega arith) (time_zone_set now time) (daylight_set now time)))
 
 mapped : (clock : ClockState) (n : ℕ) (o : Option Date) → (option_map (time_on clock n) o ≡ None → o ≡ None) × (o ≡ None → option_map (time_on clock n) o ≡ None)
 mapped clock n None = (λ _. refl, λ _. refl)

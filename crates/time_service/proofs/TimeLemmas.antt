@@ -6,7 +6,7 @@ use Rattle.std.proofs.lemmas.Int.{ints, to_z-of_z}
 use Rattle.jiff_core.specs.Calendar.{IsCivilDate}
 use Rattle.jiff_core.proofs.SignedLemmas.{signed_arith}
 use Rattle.time_service.specs.declared.efi_time.EfiTime.{EfiTime}
-use Rattle.time_service.specs.Times.{is_date, is_zone, is_valid}
+use Rattle.time_service.specs.Times.{is_date, is_time_zone, is_valid}
 use Rattle.time_service.specs.Days.{Date, date_of}
 use Rattle.time_service.specs.Clocks.{ClockState, nanoseconds_a_day, since_midnight, IsClock, time_on, moment_of}
 
@@ -39,7 +39,7 @@ pub record IsTime (time : EfiTime) : Type 0 where
   pub minute : time.minute < 60
   pub second : time.second < 60
   pub nanosecond : time.nanosecond < 1_000_000_000
-  pub zone : is_zone time.zone ≡ true
+  pub time_zone : is_time_zone time.time_zone ≡ true
   pub daylight : time.daylight < 4
 
 pub parts_of : (time : EfiTime) → is_valid time ≡ true → IsTime time
@@ -61,7 +61,7 @@ parts_of time h =
       minute = under _ _ v.1;
       second = under _ _ u.1;
       nanosecond = under _ _ t.1;
-      zone = q.1;
+      time_zone = q.1;
       daylight = under _ _ p.1;
     }
 
@@ -69,7 +69,7 @@ pub is_time : (time : EfiTime) → IsTime time → is_valid time ≡ true
 unfolding is_valid
 is_time time p =
     and_both _ _ (and_both _ _ (and_both _ _ (and_both _ _ (and_both _ _ (is_most _ _ p.first) (is_most _ _ p.last)) p.civil)
-    (and_both _ _ (and_both _ _ (and_both _ _ (is_under _ _ p.hour) (is_under _ _ p.minute)) (is_under _ _ p.second)) (is_under _ _ p.nanosecond))) p.zone) (is_under _ _ p.daylight)
+    (and_both _ _ (and_both _ _ (and_both _ _ (is_under _ _ p.hour) (is_under _ _ p.minute)) (is_under _ _ p.second)) (is_under _ _ p.nanosecond))) p.time_zone) (is_under _ _ p.daylight)
 
 -- dates by tests and by facts
 pub civil_of : (year month day : ℕ) → year ≤ 9999 → is_date year month day ≡ true → IsCivilDate (pos year) month day
@@ -83,8 +83,8 @@ pub date_of_civil : (year month day : ℕ) → IsCivilDate (pos year) month day 
 date_of_civil year month day c =
     and_both _ _ (and_both _ _ (and_both _ _ (is_most _ _ c.1.0) (is_most _ _ c.1.1)) (is_most _ _ c.2.0)) (is_most _ _ c.2.1)
 
-pub zone_fits : (zone : ℤ) → is_zone zone ≡ true → FitsSigned w16 zone
-zone_fits zone h = grind (arith, ints)
+pub time_zone_fits : (time_zone : ℤ) → is_time_zone time_zone ≡ true → FitsSigned w16 time_zone
+time_zone_fits time_zone h = grind (arith, ints)
 
 -- the parts of a day
 abbrev pub parts : Date → ℕ × ℕ × ℕ
@@ -123,8 +123,8 @@ not_shown clock now number is none =
 
 -- a time on a day of the clock is valid
 pub shown_is_valid : (clock : ClockState) (nanosecond : ℕ) (date : Date) (time : EfiTime) → time ≡ time_on clock nanosecond date → nanosecond < nanoseconds_a_day
-    → 1900 ≤ date.year → date.year ≤ 9999 → is_date date.year date.month date.day ≡ true → is_zone clock.zone ≡ true → clock.daylight < 4 → is_valid time ≡ true
-shown_is_valid clock nanosecond date time e short first last civil zone daylight =
+    → 1900 ≤ date.year → date.year ≤ 9999 → is_date date.year date.month date.day ≡ true → is_time_zone clock.time_zone ≡ true → clock.daylight < 4 → is_valid time ≡ true
+shown_is_valid clock nanosecond date time e short first last civil time_zone daylight =
     rw e (is_time (time_on clock nanosecond date) (record {
       first = first;
       last = last;
@@ -133,22 +133,22 @@ shown_is_valid clock nanosecond date time e short first last civil zone daylight
       minute = omega arith;
       second = omega arith;
       nanosecond = omega arith;
-      zone = zone;
+      time_zone = time_zone;
       daylight = daylight;
     }))
 
 -- the clock that a valid time is set to
 pub is_clock : (time : EfiTime) (day hour minute second nanosecond now : ℕ) → is_valid time ≡ true → day < 2_958_464
     → hour ≡ time.hour → minute ≡ time.minute → second ≡ time.second → nanosecond ≡ time.nanosecond
-    → IsClock (record { day = day; nanosecond = (hour * 3600 + minute * 60 + second) * 1_000_000_000 + nanosecond; zone = to_z w16 (of_z w16 time.zone); daylight = time.daylight; set_at = now })
+    → IsClock (record { day = day; nanosecond = (hour * 3600 + minute * 60 + second) * 1_000_000_000 + nanosecond; time_zone = to_z w16 (of_z w16 time.time_zone); daylight = time.daylight; set_at = now })
 is_clock time day hour minute second nanosecond now valid low a b c d =
     let p = parts_of time valid in
     let h = p.hour in
     let m = p.minute in
     let s = p.second in
     let n = p.nanosecond in
-    let same = to_z-of_z w16 time.zone (zone_fits time.zone p.zone) in
-    record { day = low; nanosecond = omega arith; zone = rw same p.zone; daylight = p.daylight }
+    let same = to_z-of_z w16 time.time_zone (time_zone_fits time.time_zone p.time_zone) in
+    record { day = low; nanosecond = omega arith; time_zone = rw same p.time_zone; daylight = p.daylight }
 
 module _ (clock : ClockState) (now a b : ℕ) (first : a ≡ clock.nanosecond) (passed : b ≡ now - clock.set_at) where
   pub number_shown : (d : ℕ) → d ≡ clock.day → d + (a + 100 * b) / nanoseconds_a_day ≡ clock.day + since_midnight clock now / nanoseconds_a_day

@@ -1,15 +1,15 @@
 -- The clock: a moment that was set, and the moments after it (UEFI 2.10, section 8.3, GetTime and SetTime).
 use Rattle.std.specs.Prelude.{ℕ, ◌≡◌, ◌<◌, ◌+◌, ◌-◌, ◌*◌, ◌/◌, ◌%◌, true, ℤ, Option, option_map}
 use Rattle.time_service.specs.declared.efi_time.EfiTime.{EfiTime}
-use Rattle.time_service.specs.Times.{is_zone}
+use Rattle.time_service.specs.Times.{is_time_zone}
 use Rattle.time_service.specs.Days.{Date, day_number, date_of}
 
--- the moment that was set last, the zone and the daylight that were set with it, and the time of the host, in units
+-- the moment that was set last, the time zone and the daylight that were set with it, and the time of the host, in units
 -- of 100 nanoseconds, at which it was set
 pub record ClockState : Type 0 where
   pub day : ℕ
   pub nanosecond : ℕ
-  pub zone : ℤ
+  pub time_zone : ℤ
   pub daylight : ℕ
   pub set_at : ℕ
 
@@ -20,7 +20,7 @@ nanoseconds_a_day = 86_400_000_000_000
 pub record IsClock (clock : ClockState) : Type 0 where
   pub day : clock.day < 2_958_464
   pub nanosecond : clock.nanosecond < nanoseconds_a_day
-  pub zone : is_zone clock.zone ≡ true
+  pub time_zone : is_time_zone clock.time_zone ≡ true
   pub daylight : clock.daylight < 4
 
 -- nanoseconds since midnight
@@ -32,7 +32,7 @@ unfoldable pub set_to : ℕ → EfiTime → ClockState
 set_to now time = record {
   day = day_number time.year time.month time.day;
   nanosecond = nanosecond_of time;
-  zone = time.zone;
+  time_zone = time.time_zone;
   daylight = time.daylight;
   set_at = now;
 }
@@ -41,7 +41,7 @@ set_to now time = record {
 unfoldable pub since_midnight : ClockState → ℕ → ℕ
 since_midnight clock now = clock.nanosecond + 100 * (now - clock.set_at)
 
--- a date and a time of that day, in the zone and with the daylight of the clock
+-- a date and a time of that day, in the time zone and with the daylight of the clock
 abbrev pub time_on : ClockState → ℕ → Date → EfiTime
 time_on clock nanosecond date = record {
   year = date.year;
@@ -51,7 +51,7 @@ time_on clock nanosecond date = record {
   minute = nanosecond / 60_000_000_000 % 60;
   second = nanosecond / 1_000_000_000 % 60;
   nanosecond = nanosecond % 1_000_000_000;
-  zone = clock.zone;
+  time_zone = clock.time_zone;
   daylight = clock.daylight;
 }
 

@@ -34,7 +34,7 @@ EndsAfter9999 = (clock : ClockState) (now : ℕ) → moment_of clock now ≡ Non
 pub record IsLocal (time : EfiTime) : Type 0 where
   pub valid : is_valid time ≡ true
   pub whole : time.nanosecond ≡ 0
-  pub local : time.zone ≡ pos 2047
+  pub local : time.time_zone ≡ pos 2047
   pub plain : time.daylight ≡ 0
 
 -- a clock that the text of such a time sets

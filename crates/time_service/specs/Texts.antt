@@ -29,7 +29,7 @@ time_in text = record {
   minute = two_digits text 14;
   second = two_digits text 17;
   nanosecond = 0;
-  zone = pos 2047;
+  time_zone = pos 2047;
   daylight = 0;
 }
 

@@ -10,7 +10,7 @@ use Rattle.time_service.specs.declared.efi_time.EfiTime.{EfiTime}
 unfoldable pub bytes_of : EfiTime → List ℕ
 bytes_of time =
     to_le_bytes w16 time.year ++ (time.month ∷ time.day ∷ time.hour ∷ time.minute ∷ time.second ∷ 0 ∷ [])
-    ++ to_le_bytes w32 time.nanosecond ++ to_le_bytes w16 (cast_unsigned w16 time.zone) ++ (time.daylight ∷ 0 ∷ [])
+    ++ to_le_bytes w32 time.nanosecond ++ to_le_bytes w16 (cast_unsigned w16 time.time_zone) ++ (time.daylight ∷ 0 ∷ [])
 
 -- the fields of sixteen bytes
 unfoldable pub fields_of : List ℕ → EfiTime
@@ -22,7 +22,7 @@ fields_of bytes = record {
   minute = slice_index bytes 5;
   second = slice_index bytes 6;
   nanosecond = from_le_bytes w32 (take 4 (drop 8 bytes));
-  zone = cast_signed w16 (from_le_bytes w16 (take 2 (drop 12 bytes)));
+  time_zone = cast_signed w16 (from_le_bytes w16 (take 2 (drop 12 bytes)));
   daylight = slice_index bytes 14;
 }
 
@@ -35,13 +35,13 @@ abbrev pub is_time_of_day : EfiTime → Bool
 is_time_of_day time = nat_lt time.hour 24 && nat_lt time.minute 60 && nat_lt time.second 60 && nat_lt time.nanosecond 1_000_000_000
 
 -- minutes from universal time, a day at most either way, or 2047 for a local time
-abbrev pub is_zone : ℤ → Bool
-is_zone zone = int_eq zone (pos 2047) || (not (int_lt zone (negsuc 1439)) && not (int_lt (pos 1440) zone))
+abbrev pub is_time_zone : ℤ → Bool
+is_time_zone time_zone = int_eq time_zone (pos 2047) || (not (int_lt time_zone (negsuc 1439)) && not (int_lt (pos 1440) time_zone))
 
 -- a valid time
 unfoldable pub is_valid : EfiTime → Bool
 is_valid time =
-    nat_le 1900 time.year && nat_le time.year 9999 && is_date time.year time.month time.day && is_time_of_day time && is_zone time.zone && nat_lt time.daylight 4
+    nat_le 1900 time.year && nat_le time.year 9999 && is_date time.year time.month time.day && is_time_of_day time && is_time_zone time.time_zone && nat_lt time.daylight 4
 
 -- the time that sixteen bytes hold, where it is valid
 unfoldable pub time_of : List ℕ → Option EfiTime

@@ -18,7 +18,7 @@ const NANOSECONDS_A_DAY: u128 = 86_400_000_000_000;
 pub struct Clock {
     day: u32,
     nanosecond: u64,
-    zone: i16,
+    time_zone: i16,
     daylight: u8,
     set_at: u64,
 }
@@ -28,16 +28,16 @@ impl Model for Clock {
 
     ghost Value = { ClockState };
 
-    ghost view = { λ c. record { day = c.day; nanosecond = c.nanosecond; zone = c.zone; daylight = c.daylight; set_at = c.set_at } };
+    ghost view = { λ c. record { day = c.day; nanosecond = c.nanosecond; time_zone = c.time_zone; daylight = c.daylight; set_at = c.set_at } };
 
-    ghost invariant = { λ c. IsClock (record { day = c.day; nanosecond = c.nanosecond; zone = c.zone; daylight = c.daylight; set_at = c.set_at }) };
+    ghost invariant = { λ c. IsClock (record { day = c.day; nanosecond = c.nanosecond; time_zone = c.time_zone; daylight = c.daylight; set_at = c.set_at }) };
 
-    ghost inverse = { λ c. record { day = c.day; nanosecond = c.nanosecond; zone = c.zone; daylight = c.daylight; set_at = c.set_at } };
+    ghost inverse = { λ c. record { day = c.day; nanosecond = c.nanosecond; time_zone = c.time_zone; daylight = c.daylight; set_at = c.set_at } };
 }
 
 impl Clock {
     /// The clock that a text sets at the host's time 0, as `2024-01-01T00:00:00`: a valid date and time of day from 1900
-    /// on, with zone 2047 and daylight 0. None exactly where the text says no such time.
+    /// on, with time zone 2047 and daylight 0. None exactly where the text says no such time.
     #[tactic(auto, unfolding(crate::specs::Texts::clock_of))]
     pub fn at(text: &str) -> Option<Clock>
         ensures clock { result ≡ clock_of text.now }
@@ -67,7 +67,7 @@ impl Clock {
         Clock {
             day: days::day_number(time.year, time.month, time.day),
             nanosecond: seconds * 1_000_000_000 + u64::from(time.nanosecond),
-            zone: time.zone,
+            time_zone: time.time_zone,
             daylight: time.daylight,
             set_at: now,
         }
@@ -109,7 +109,7 @@ impl Clock {
             minute: (nanosecond / 60_000_000_000 % 60) as u8,
             second: (nanosecond / 1_000_000_000 % 60) as u8,
             nanosecond: (nanosecond % 1_000_000_000) as u32,
-            zone: self.zone,
+            time_zone: self.time_zone,
             daylight: self.daylight,
         }
     }

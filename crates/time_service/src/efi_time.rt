@@ -3,7 +3,7 @@
 
 use crate::days;
 
-/// A time as UEFI has it (EFI_TIME: UEFI 2.10, section 8.3, GetTime). The zone is the number of minutes from
+/// A time as UEFI has it (EFI_TIME: UEFI 2.10, section 8.3, GetTime). The time zone is the number of minutes from
 /// universal time, or 2047 for a local time. The daylight has bit 1 where daylight saving applies, and bit 2 where
 /// the time was changed for it.
 #[derive(Clone, Copy, Debug, PartialEq, Eq)]
@@ -15,19 +15,20 @@ pub struct EfiTime {
     pub minute: u8,
     pub second: u8,
     pub nanosecond: u32,
-    pub zone: i16,
+    pub time_zone: i16,
     pub daylight: u8,
 }
 
 impl EfiTime {
-    ghost use Rattle.std.specs.Prelude.{◌≡◌};
-    ghost use Rattle.time_service.specs.Times.{bytes_of, fields_of, time_of, is_valid, is_time_of_day, is_zone};
+    ghost use Rattle.std.specs.Prelude.{◌≡◌, true, IfSome};
+    ghost use Rattle.time_service.specs.Times.{bytes_of, fields_of, time_of, is_valid, is_time_of_day, is_time_zone};
 
     /// The time of sixteen bytes: the fields in order, each with its least byte first, and a byte that isn't read behind
     /// the second and behind the daylight. None exactly where it isn't valid.
     #[tactic(auto, unfolding(crate::specs::Times::time_of))]
     pub fn read(bytes: &[u8; 16]) -> Option<EfiTime>
-        ensures { result ≡ time_of bytes.now }
+        ensures time { result ≡ time_of bytes.now }
+        ensures valid { IfSome result (λ time. is_valid time ≡ true) }
     {
         let time = EfiTime::from_bytes(bytes);
         if time.is_valid() { Some(time) } else { None }
@@ -64,7 +65,7 @@ impl EfiTime {
             minute,
             second,
             nanosecond: u32::from_le_bytes([n0, n1, n2, n3]),
-            zone: u16::from_le_bytes([z0, z1]).cast_signed(),
+            time_zone: u16::from_le_bytes([z0, z1]).cast_signed(),
             daylight,
         }
     }
@@ -76,7 +77,7 @@ impl EfiTime {
     {
         let [y0, y1] = self.year.to_le_bytes();
         let [n0, n1, n2, n3] = self.nanosecond.to_le_bytes();
-        let [z0, z1] = self.zone.cast_unsigned().to_le_bytes();
+        let [z0, z1] = self.time_zone.cast_unsigned().to_le_bytes();
         [
             y0,
             y1,
@@ -103,13 +104,13 @@ impl EfiTime {
         self.hour < 24 && self.minute < 60 && self.second < 60 && self.nanosecond < 1_000_000_000
     }
 
-    fn is_zone(&self) -> bool
-        ensures { result ≡ is_zone self.now.zone }
+    fn is_time_zone(&self) -> bool
+        ensures { result ≡ is_time_zone self.now.time_zone }
     {
-        self.zone == 2047 || (self.zone >= -1440 && self.zone <= 1440)
+        self.time_zone == 2047 || (self.time_zone >= -1440 && self.time_zone <= 1440)
     }
 
-    /// A valid time: a date from 1900 to 9999 that the calendar has, a time of day, a zone of a day at most or 2047,
+    /// A valid time: a date from 1900 to 9999 that the calendar has, a time of day, a time zone of a day at most or 2047,
     /// and a daylight from 0 to 3.
     #[tactic(auto, unfolding(crate::specs::Times::is_valid))]
     pub fn is_valid(&self) -> bool
@@ -120,7 +121,7 @@ impl EfiTime {
         }
         days::is_date(self.year, self.month, self.day)
             && self.is_time_of_day()
-            && self.is_zone()
+            && self.is_time_zone()
             && self.daylight < 4
     }
 }

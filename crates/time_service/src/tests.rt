@@ -14,7 +14,7 @@ const TIME: EfiTime = EfiTime {
     minute: 59,
     second: 58,
     nanosecond: 123_456_789,
-    zone: -90,
+    time_zone: -90,
     daylight: 3,
 };
 
@@ -81,8 +81,8 @@ fn zones(rt: HostRuntime) -> Result<(), Fail> {
         (2048, false),
         (i16::MIN, false),
     ];
-    for (zone, valid) in rows {
-        let time = EfiTime { zone, ..TIME };
+    for (time_zone, valid) in rows {
+        let time = EfiTime { time_zone, ..TIME };
         assert_eq!(rt; time.is_valid(), valid);
     }
     Ok(())

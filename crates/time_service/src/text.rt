@@ -65,7 +65,7 @@ pub fn time_in(text: &[u8]) -> EfiTime
         minute: two_digits(text, 14),
         second: two_digits(text, 17),
         nanosecond: 0,
-        zone: 2047,
+        time_zone: 2047,
         daylight: 0,
     }
 }

@@ -1,5 +1,5 @@
 use Rattle.std.proofs.Common.{◌∙◌, ◌-◌, ap, arith, subst, ◌≡◌, ◌<◌, true}
-use Rattle.time_service.specs.Times.{is_zone}
+use Rattle.time_service.specs.Times.{is_time_zone}
 use Rattle.time_service.proofs.TimeLemmas.{shown, not_shown, shown_is_valid, number_shown, rest_shown}
 use Rattle.time_service.proofs.clock.Clock.moment.Goals as goal
 
@@ -14,7 +14,7 @@ returns-in-Some-clause-moment c =
 pub returns-in-Some-clause-valid : goal.returns-in-Some-clause-valid
 returns-in-Some-clause-valid c =
     shown_is_valid c.args.self.now _ _ c.time_on.result c.time_on.ensures (omega arith) c.in-Some.ensures.first c.in-Some.ensures.last c.in-Some.ensures.civil
-    (subst (λ x. is_zone x.zone ≡ true) c.self.view_is c.self.invariant.zone) (subst (λ x. x.daylight < 4) c.self.view_is c.self.invariant.daylight)
+    (subst (λ x. is_time_zone x.time_zone ≡ true) c.self.view_is c.self.invariant.time_zone) (subst (λ x. x.daylight < 4) c.self.view_is c.self.invariant.daylight)
 
 pub returns-in-None-clause-moment : goal.returns-in-None-clause-moment
 returns-in-None-clause-moment c =
