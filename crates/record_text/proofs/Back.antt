@@ -1,5 +1,5 @@
 -- A line's text is guessed to be that line's.
-use Rattle.std.proofs.Common.{◌≡◌, ℕ, zero, suc, ◌+◌, ◌/◌, ◌%◌, ◌^◌, ◌<◌, List, [], ◌∷◌, ◌++◌, length, take, drop, codes, true, false, Some, None, refl, sym, rules, arith, append_assoc}
+use Rattle.std.proofs.Common.{◌≡◌, ℕ, zero, suc, ◌+◌, ◌/◌, ◌%◌, ◌^◌, ◌<◌, ◌≤◌, List, [], ◌∷◌, ◌++◌, length, take, drop, codes, true, false, Some, None, refl, sym, rules, arith, append_assoc}
 use Rattle.std.proofs.lemmas.Bool.{and_parts}
 use Rattle.std.proofs.lemmas.Bool.Decides.{nat_tests}
 use Rattle.std.proofs.lemmas.List.{take_at, drop_at, length-append}
@@ -7,8 +7,7 @@ use Rattle.std.specs.Fmt.{decimal}
 use Rattle.std.specs.List.{position_or_len, list_all}
 use Rattle.uh_base.specs.Hex.{hex_digit, hex_digits}
 use Rattle.uh_base.specs.Names.{is_name, is_name_byte}
-use Rattle.uh_base.specs.Numbers.{hexadecimal_number}
-use Rattle.uh_base.proofs.NumberLemmas.{number_of_decimal, number_of_hex_digits}
+use Rattle.uh_base.specs.Numbers.{number_of, hexadecimal_number}
 use Rattle.record_text.specs.Causes.{cause_name, cause_of}
 use Rattle.record_text.specs.Texts.{text_of, IsLine}
 use Rattle.record_text.specs.Guesses.{is_space, cut, small_number, load_of, start_of, halt_of, with_word, guess_of}
@@ -100,43 +99,48 @@ cause_back causes.BootGone = refl
 cause_back causes.Depth = refl
 cause_back causes.Frames = refl
 
-hex_back : (n : ℕ) → n < 2 ^ 64 → hexadecimal_number (hex_digits 16 n) ≡ Some n
-hex_back n h = number_of_hex_digits 16 n (omega arith) (omega arith) h
+-- the texts of numbers are read back, as laws say
+pub record ReadBack : Type 0 where
+  pub decimals : (n : ℕ) → n < 2 ^ 64 → number_of (decimal n) ≡ Some n
+  pub hexadecimals : (count n : ℕ) → 1 ≤ count → count ≤ 16 → n < 16 ^ count → hexadecimal_number (hex_digits count n) ≡ Some n
 
-small_back : (n : ℕ) → n < 2 ^ 32 → small_number (decimal n) ≡ Some n
+hex_back : ReadBack → (n : ℕ) → n < 2 ^ 64 → hexadecimal_number (hex_digits 16 n) ≡ Some n
+hex_back laws n h = laws.hexadecimals 16 n (omega arith) (omega arith) h
+
+small_back : ReadBack → (n : ℕ) → n < 2 ^ 32 → small_number (decimal n) ≡ Some n
 unfolding small_number
-small_back n h = rw (number_of_decimal n (omega arith)) (grind (arith, nat_tests))
+small_back laws n h = rw (laws.decimals n (omega arith)) (grind (arith, nat_tests))
 
 -- ---- lines
 
-pub guess_text : (line : Line) → IsLine line → guess_of (text_of line) ≡ Some line
+pub guess_text : ReadBack → (line : Line) → IsLine line → guess_of (text_of line) ≡ Some line
 unfolding guess_of with_word text_of load_of start_of halt_of
-guess_text (Console text) f = rw (cut_word (codes "console") text (search rules)) refl
-guess_text (Load name h0 h1 pages) f =
+guess_text laws (Console text) f = rw (cut_word (codes "console") text (search rules)) refl
+guess_text laws (Load name h0 h1 pages) f =
     rw (
       cut_word (codes "load") _ (search rules),
       cut_word name _ (name_no_space name f.0),
       cut_word (hex_digits 16 h0) _ (hex_no_space 16 h0),
       cut_word (hex_digits 16 h1) _ (hex_no_space 16 h1),
-      hex_back h0 f.1.0,
-      hex_back h1 f.1.1,
-      small_back pages f.1.2,
+      hex_back laws h0 f.1.0,
+      hex_back laws h1 f.1.1,
+      small_back laws pages f.1.2,
     ) refl
-guess_text (Start name h0 steps) f =
+guess_text laws (Start name h0 steps) f =
     rw (
       cut_word (codes "start") _ (search rules),
       cut_word name _ (name_no_space name f.0),
       cut_word (hex_digits 16 h0) _ (hex_no_space 16 h0),
-      hex_back h0 f.1.0,
-      number_of_decimal steps f.1.1,
+      hex_back laws h0 f.1.0,
+      laws.decimals steps f.1.1,
     ) refl
-guess_text (Halt cause h0 h1) f =
+guess_text laws (Halt cause h0 h1) f =
     rw (
       cut_word (codes "halt") _ (search rules),
       cut_word (cause_name cause) _ (cause_no_space cause),
       cut_word (hex_digits 16 h0) _ (hex_no_space 16 h0),
       cause_back cause,
-      hex_back h0 f.1.0,
-      hex_back h1 f.1.1,
+      hex_back laws h0 f.1.0,
+      hex_back laws h1 f.1.1,
     ) refl
-guess_text End f = rw (cut_none (codes "end") (search rules)) refl
+guess_text laws End f = rw (cut_none (codes "end") (search rules)) refl

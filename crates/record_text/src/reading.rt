@@ -9,7 +9,7 @@ use crate::console::is_console_text;
 use crate::line::Line;
 use crate::writing::line_text;
 use std::alloc::{AllocError, Global};
-use uh_base::{Text, hexadecimal, is_name, number};
+use uh_base::{Text, decimals_read_back, hexadecimal, hexadecimals_read_back, is_name, number};
 
 /// The first word, and what stands behind the space after it.
 fn cut(text: &str) -> Option<(&str, &str)>
@@ -147,6 +147,9 @@ pub fn read_line(alloc: Global, text: &str) -> Result<Option<Line>, AllocError>
     ensures only { IfOk result (λ o. IfSome o (λ line. (other : AnyLine) → IsLine other → text_of other ≡ text.now → line ≡ other)) }
     ensures none { IfOk result (λ o. IfNone o ((line : AnyLine) → IsLine line → text_of line ≡ text.now → ⊥)) }
 {
+    // What the proof reads of `uh_base`: numbers' texts are read as these numbers.
+    decimals_read_back();
+    hexadecimals_read_back();
     let line = match guess_of(alloc, text)? {
         Some(line) => line,
         None => return Ok(None),
