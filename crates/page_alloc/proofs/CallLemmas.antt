@@ -158,3 +158,21 @@ free_owned m owner at n even some owned =
     let p : (at % 4096 == 0) ≡ true = grind (arith, nat_tests) in
     let q : nat_lt 0 n ≡ true = grind (arith, nat_tests) in
     rw (p, q, owned) refl
+
+-- what was freed was the owner's, and one page or more
+pub freeing_owns : (m : PageList) (owner : Owner) (at n : ℕ) (done : Unit {0}) → freeing m owner at n ≡ Ok done → owns m owner at n ≡ true
+unfolding freeing
+freeing_owns m owner at n done e = by (at % 4096 == 0 && nat_lt 0 n) (owns m owner at n) refl e
+  where
+    by : (a b : Bool) → owns m owner at n ≡ b → (if a then (if b then Ok tt else Err NotFound) else Err Invalid) ≡ Ok done → owns m owner at n ≡ true
+    by true true o h = o
+    by true false o h = absurd (cc)
+    by false b o h = absurd (cc)
+
+pub freeing_some : (m : PageList) (owner : Owner) (at n : ℕ) (done : Unit {0}) → freeing m owner at n ≡ Ok done → 0 < n
+unfolding freeing
+freeing_some m owner at n done e = by (at % 4096 == 0 && nat_lt 0 n) refl e
+  where
+    by : (a : Bool) → (at % 4096 == 0 && nat_lt 0 n) ≡ a → (if a then (if owns m owner at n then Ok tt else Err NotFound) else Err Invalid) ≡ Ok done → 0 < n
+    by true o h = let q : nat_lt 0 n ≡ true = (and_true (at % 4096 == 0) (nat_lt 0 n) o).1 in grind (arith, nat_tests)
+    by false o h = absurd (cc)

@@ -6,7 +6,7 @@ use Rattle.page_alloc.specs.declared.page.Page.{Page}
 use Rattle.page_alloc.specs.declared.runs.Run.{Run}
 use Rattle.page_alloc.specs.Runs.{all_pages, NoneEmpty}
 use Rattle.page_alloc.specs.Pages.{with_pages}
-use Rattle.page_alloc.proofs.RunLemmas.{pages-append, pages_from}
+use Rattle.page_alloc.proofs.RunLemmas.{pages-append, pages_from, before_more, not_empty}
 
 -- runs that aren't empty
 pub none_append : (xs ys : List Run) → NoneEmpty xs → NoneEmpty ys → NoneEmpty (xs ++ ys)
@@ -26,6 +26,38 @@ none_drop (suc i) (x ∷ xs) p = none_drop i xs p.1
 -- the pages of the runs before a place and from it on
 pub parts : (xs : List Run) (i : ℕ) → all_pages xs ≡ all_pages (take i xs) ++ all_pages (drop i xs)
 parts xs i = sym (ap all_pages (take-append-drop i xs)) ∙ pages-append (take i xs) (drop i xs)
+
+-- the last run before a place, where all pages before the place are known by their number
+pub record LastRun (xs : List Run) (place start n : ℕ) (d : Run) : Type 0 where
+  pub fits : n ≤ start
+  pub some : NoneEmpty xs → 0 < n
+  pub front : length (all_pages (take (place - 1) xs)) ≡ start - n
+  pub pages : drop (start - n) (all_pages xs) ≡ replicate (get_or xs (place - 1) d).count (get_or xs (place - 1) d).page ++ all_pages (drop (place - 1 + 1) xs)
+
+pub last_run : (xs : List Run) (place start n : ℕ) (d : Run) → 0 < place → place ≤ length xs → length (all_pages (take place xs)) ≡ start → n ≡ (get_or xs (place - 1) d).count → LastRun xs place start n d
+last_run xs place start n d low high front e =
+    let inside : place - 1 < length xs = omega arith in
+    let there : place - 1 + 1 ≡ place = omega arith in
+    let more = before_more xs (place - 1) d inside in
+    let same : length (all_pages (take (place - 1 + 1) xs)) ≡ start = ap (λ k. length (all_pages (take k xs))) there ∙ front in
+    let before : length (all_pages (take (place - 1) xs)) ≡ start - n = omega (arith, more, same) in
+    record {
+      fits = omega (arith, more, same);
+      some = λ all. rw e (not_empty xs (place - 1) d all inside);
+      front = before;
+      pages = ap (λ ps. drop (start - n) ps) (parts xs (place - 1)) ∙ drop_at (all_pages (take (place - 1) xs)) (all_pages (drop (place - 1) xs)) (start - n) before ∙ pages_from xs (place - 1) d inside;
+    }
+
+-- no more pages than all lie before a place, and none before the first
+pub before_inside : (xs : List Run) (place : ℕ) → length (all_pages (take place xs)) ≤ length (all_pages xs)
+before_inside xs place =
+    let l = ap length (parts xs place) in
+    omega (arith, l, length-append (all_pages (take place xs)) (all_pages (drop place xs)))
+
+pub none_before : (xs : List Run) (place start : ℕ) → place ≤ 0 → length (all_pages (take place xs)) ≡ start → start ≡ 0
+unfolding all_pages
+none_before xs zero start low front = sym front
+none_before xs (suc place) start low front = absurd (omega arith)
 
 -- and from the run behind it on
 pub around : (xs : List Run) (i : ℕ) (d : Run) → i < length xs

@@ -17,7 +17,7 @@ use Rattle.page_alloc.proofs.PageLemmas.{all_from_tells, and_true, length-with_p
 use Rattle.page_alloc.proofs.CallLemmas.{page_before, page_there, page_behind, owns_changed, is_given, free_owned}
 
 -- a page that is there
-there_is : (pages : List Page) (k : ℕ) (d page : Page) → slice_get pages k ≡ Some page → get_or pages k d ≡ page
+pub there_is : (pages : List Page) (k : ℕ) (d page : Page) → slice_get pages k ≡ Some page → get_or pages k d ≡ page
 there_is [] k d page e = absurd (cc)
 there_is (p ∷ ps) Prim.Native.Nat.zero d page e = cc
 there_is (p ∷ ps) (Prim.Native.Nat.suc k) d page e = there_is ps k d page e
@@ -69,7 +69,7 @@ others_stay m at count k page inside apart = elim (leb_tells (length m.pages) k)
     past (p ∷ ps) Prim.Native.Nat.zero h = absurd (omega arith)
     past (p ∷ ps) (Prim.Native.Nat.suc n) h = past ps n (omega arith)
 
-one_owner : (owner : Owner) → is_same_owner owner owner ≡ true
+pub one_owner : (owner : Owner) → is_same_owner owner owner ≡ true
 one_owner Free = refl
 one_owner Firmware = refl
 one_owner Pages = refl

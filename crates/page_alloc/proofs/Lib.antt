@@ -9,3 +9,4 @@ pub mod SplitLemmas
 pub mod SamePage
 pub mod CallLemmas
 pub mod LawLemmas
+pub mod OwnerLemmas

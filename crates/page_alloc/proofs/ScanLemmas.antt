@@ -1,32 +1,17 @@
--- The scan for the highest room, from the lowest run on.
-use Rattle.std.proofs.Common.{◌≡◌, ℕ, ◌+◌, ◌-◌, ◌<◌, ◌≤◌, List, [], ◌++◌, length, drop, get_or, replicate, refl, sym, ap, ◌∙◌, arith, Bool, true, false, min, inl, inr, length-append, length-drop}
-use Rattle.std.specs.Prelude.{nat_le, Option, Some, None, if◌then◌else◌}
-use Rattle.std.specs.Option.{option_or}
+-- The search for the highest room, from the highest run down.
+use Rattle.std.proofs.Common.{◌≡◌, ℕ, ◌+◌, ◌-◌, ◌<◌, ◌≤◌, List, ◌++◌, length, drop, get_or, replicate, refl, sym, ap, ◌∙◌, arith, subst, Bool, true, false, min, inl, inr, length-append, length-drop}
+use Rattle.std.specs.Prelude.{◌&&◌, nat_le, Some, None, if◌then◌else◌}
 use Rattle.std.specs.Bool.{Decides}
 use Rattle.std.proofs.lemmas.Bool.Decides.{nat_tests, leb_tells}
 use Rattle.std.proofs.lemmas.List.{get_or-drop, get_or_append_left, get_or-replicate, length-replicate}
 use Rattle.page_alloc.specs.declared.page.Page.{Page}
-use Rattle.page_alloc.specs.Pages.{is_conventional}
-use Rattle.page_alloc.specs.Fit.{IsGreatest, is_room}
+use Rattle.page_alloc.specs.Pages.{all_from, is_conventional}
+use Rattle.page_alloc.specs.Fit.{IsHighest, is_room}
 use Rattle.page_alloc.proofs.PageLemmas.{Passes, all_from_tells, and_true}
 use Rattle.page_alloc.proofs.FitLemmas.{tells}
-
--- so many conventional pages from a start on end at most at a limit
-pub record Room (pages : List Page) (count limit start : ℕ) : Type 0 where
-  pub passes : Passes is_conventional pages start count
-  pub ends : start + count ≤ limit
-
-abbrev pub Best : (ℕ → Type 0) → Option ℕ → Type 0
-Best P None = (n : ℕ) → P n → ⊥
-Best P (Some best) = P best × ((n : ℕ) → P n → n ≤ best)
-
--- what is known of the pages before an end
-pub record Scan (pages : List Page) (count limit end room : ℕ) (best : Option ℕ) : Type 0 where
-  pub room_low : room ≤ end
-  pub end_low : end ≤ length pages
-  pub stretch : (k : ℕ) (d : Page) → room ≤ k → k < end → is_conventional (get_or pages k d) ≡ true
-  pub edge : (k : ℕ) (d : Page) → k + 1 ≡ room → is_conventional (get_or pages k d) ≡ false
-  pub greatest : Best (Room pages count (min end limit)) best
+use Rattle.page_alloc.specs.declared.runs.Run.{Run}
+use Rattle.page_alloc.specs.Runs.{all_pages, NoneEmpty}
+use Rattle.page_alloc.proofs.EditLemmas.{LastRun}
 
 -- the pages of a run behind an end
 pub here : (pages rest : List Page) (end c k : ℕ) (page d : Page) → drop end pages ≡ replicate c page ++ rest → end ≤ k → k < end + c → get_or pages k d ≡ page
@@ -42,140 +27,123 @@ end_inside pages rest end c page low e =
     let l = ap length e in
     omega (arith, l, length-drop end pages, length-append (replicate c page) rest, length-replicate c page)
 
-module _ (pages rest : List Page) (count limit end room c : ℕ) (page : Page) (best : Option ℕ) (some : 0 < count) (more : 0 < c)
-    (scan : Scan pages count limit end room best) (e : drop end pages ≡ replicate c page ++ rest) where
-  inside : end + c ≤ length pages
-  inside = end_inside pages rest end c page scan.end_low e
+-- so many conventional pages from a start on, at least at a lowest start, end at most at a limit
+pub record Room (pages : List Page) (count lowest limit start : ℕ) : Type 0 where
+  pub passes : Passes is_conventional pages start count
+  pub begins : lowest ≤ start
+  pub ends : start + count ≤ limit
 
-  wider : (n : ℕ) → Room pages count (min end limit) n → Room pages count (min (end + c) limit) n
-  wider n room' = let ends = room'.ends in record { passes = room'.passes; ends = omega arith }
+room_tells : (pages : List Page) (count lowest limit n : ℕ) → Decides (is_room pages count lowest limit n) (Room pages count lowest limit n)
+unfolding is_room
+room_tells pages count lowest limit n = (
+  λ h. let p = and_true (all_from is_conventional pages n count) (nat_le lowest n && nat_le (n + count) limit) h in
+      let q = and_true (nat_le lowest n) (nat_le (n + count) limit) p.1 in
+      let low : nat_le lowest n ≡ true = q.0 in
+      let high : nat_le (n + count) limit ≡ true = q.1 in
+      record { passes = (all_from_tells is_conventional pages n count).0 p.0; begins = grind (arith, nat_tests); ends = grind (arith, nat_tests) },
+  λ r. let b = r.begins in
+      let l = r.ends in
+      let low : nat_le lowest n ≡ true = grind (arith, nat_tests) in
+      let high : nat_le (n + count) limit ≡ true = grind (arith, nat_tests) in
+      rw ((all_from_tells is_conventional pages n count).1 r.passes) (rw (low, high) refl),
+)
 
-  -- where no start is new, the best stays
-  kept : (o : Option ℕ) → ((n : ℕ) → Room pages count (min (end + c) limit) n → Room pages count (min end limit) n)
-      → Best (Room pages count (min end limit)) o → Best (Room pages count (min (end + c) limit)) o
-  kept None narrower h = λ n r. h n (narrower n r)
-  kept (Some b) narrower h = (wider b h.0, λ n r. h.1 n (narrower n r))
+fails : (pages : List Page) (count lowest limit n : ℕ) → (Room pages count lowest limit n → ⊥) → is_room pages count lowest limit n ≡ false
+fails pages count lowest limit n h = elim (tells (is_room pages count lowest limit n)) [ inl holds ↦ absurd (h ((room_tells pages count lowest limit n).0 holds)) | inr no_room ↦ no_room ]
 
-  -- behind a run of other pages no start is new
-  same_when_other : is_conventional page ≡ false → (n : ℕ) → Room pages count (min (end + c) limit) n → Room pages count (min end limit) n
-  same_when_other other n room' =
-      let ends = room'.ends in
-      let before : n + count ≤ end = elim (leb_tells (n + count) end) [
-        | inl p ↦ p.1
-        | inr p ↦ absurd (let after : end < n + count = p.1 in
-            let is : get_or pages (n + count - 1) page ≡ page = here pages rest end c (n + count - 1) page page e (omega arith) (omega arith) in
-            let conv = room'.passes.each (n + count - 1) page (omega arith) (omega arith) in
-            let clash : is_conventional page ≡ true = rw is at conv in cc)
-      ] in
-      record { passes = room'.passes; ends = omega arith }
+-- what is known of the pages from a start on: those up to a top are conventional, and no room ends above it
+pub record Searched (pages : List Page) (count lowest limit start top : ℕ) : Type 0 where
+  pub inside : top ≤ length pages
+  pub under : top ≤ limit
+  pub stretch : (k : ℕ) (d : Page) → start ≤ k → k < top → is_conventional (get_or pages k d) ≡ true
+  pub rooms : (n : ℕ) → Room pages count lowest limit n → n + count ≤ top
 
-  other : is_conventional page ≡ false → (top : ℕ) → top ≡ min (end + c) limit
-      → Scan pages count limit (end + c) (end + c) (option_or (if nat_le (end + c + count) top then Some (top - count) else None) best)
-  other not_conv top t =
-      let no_room : nat_le (end + c + count) top ≡ false = grind (arith, nat_tests) in
-      rw no_room (record {
-        room_low = omega arith;
-        end_low = inside;
-        stretch = λ k d low high. absurd (omega arith);
-        edge = λ k d last. let low = scan.end_low in rw (here pages rest end c k page d e (omega arith) (omega arith)) not_conv;
-        greatest = kept best (same_when_other not_conv) scan.greatest;
-      })
-
-  all_conventional : is_conventional page ≡ true → (k : ℕ) (d : Page) → room ≤ k → k < end + c → is_conventional (get_or pages k d) ≡ true
-  all_conventional conv k d low high = elim (leb_tells end k) [
-    | inl p ↦ (let l : end ≤ k = p.1 in rw (here pages rest end c k page d e l high) conv)
-    | inr p ↦ scan.stretch k d low p.1
-  ]
-
-  -- where the stretch is too short, no start is new
-  same_when_short : (n top : ℕ) → top ≡ min (end + c) limit → top < room + count → Room pages count (min (end + c) limit) n → Room pages count (min end limit) n
-  same_when_short n top t short room' =
-      let ends = room'.ends in
-      let low = scan.room_low in
-      let before : n + count ≤ end = elim (leb_tells (n + count) end) [
-        | inl p ↦ p.1
-        | inr p ↦ absurd (let after : end < n + count = p.1 in
-            let conv = room'.passes.each (room - 1) page (omega arith) (omega arith) in
-            let not_conv = scan.edge (room - 1) page (omega arith) in cc)
-      ] in
-      record { passes = room'.passes; ends = omega arith }
-
-  best_in : (b : Bool) (top : ℕ) → is_conventional page ≡ true → top ≡ min (end + c) limit → nat_le (room + count) top ≡ b
-      → Best (Room pages count (min (end + c) limit)) (option_or (if b then Some (top - count) else None) best)
-  best_in true top conv t fits =
-      let low : room + count ≤ top = grind (arith, nat_tests) in
-      let long = inside in (
-        record {
-          passes = record { inside = omega arith; each = λ k d from to. all_conventional conv k d (omega arith) (omega arith) };
-          ends = omega arith;
-        },
-        λ n r. let ends = r.ends in omega arith,
-      )
-  best_in false top conv t fits =
-      let short : top < room + count = grind (arith, nat_tests) in
-      kept best (λ n r. same_when_short n top t short r) scan.greatest
-
-  longer : is_conventional page ≡ true → (top : ℕ) → top ≡ min (end + c) limit
-      → Scan pages count limit (end + c) room (option_or (if nat_le (room + count) top then Some (top - count) else None) best)
-  longer conv top t =
-      let low = scan.room_low in
-      record {
-        room_low = omega arith;
-        end_low = inside;
-        stretch = all_conventional conv;
-        edge = scan.edge;
-        greatest = best_in (nat_le (room + count) top) top conv t refl;
-      }
-
-  step_by : (b : Bool) (room' top : ℕ) → is_conventional page ≡ b → room' ≡ (if b then room else end + c) → top ≡ min (end + c) limit
-      → Scan pages count limit (end + c) room' (option_or (if nat_le (room' + count) top then Some (top - count) else None) best)
-  step_by true room' top b r t = rw r (longer b top t)
-  step_by false room' top b r t = rw r (other b top t)
-
--- a run more
-pub step : (pages rest : List Page) (count limit end room c room' top end' : ℕ) (page : Page) (best best' : Option ℕ) → 0 < count → 0 < c
-    → Scan pages count limit end room best → drop end pages ≡ replicate c page ++ rest
-    → end' ≡ end + c → room' ≡ (if is_conventional page then room else end') → top ≡ min end' limit
-    → best' ≡ option_or (if nat_le (room' + count) top then Some (top - count) else None) best
-    → Scan pages count limit end' room' best'
-step pages rest count limit end room c room' top end' page best best' some more scan e n r t b =
-    rw (b, n) (step_by pages rest count limit end room c page best some more scan e (is_conventional page) room' top refl (rw n at r) (rw n at t))
-
--- before the first run
-pub begin : (pages : List Page) (count limit : ℕ) → 0 < count → Scan pages count limit 0 0 None
-begin pages count limit some = record {
-  room_low = omega arith;
-  end_low = omega arith;
+-- above the highest run
+pub begin : (pages : List Page) (count lowest limit total top : ℕ) → total ≡ length pages → top ≡ min total limit → Searched pages count lowest limit total top
+begin pages count lowest limit total top e t = record {
+  inside = omega arith;
+  under = omega arith;
   stretch = λ k d low high. absurd (omega arith);
-  edge = λ k d last. absurd (omega arith);
-  greatest = λ n r. let ends = r.ends in absurd (omega arith);
+  rooms = λ n r. let i = r.passes.inside in let l = r.ends in omega arith;
 }
 
--- behind the last run
-room_tells : (pages : List Page) (count limit n : ℕ) → Decides (is_room pages count limit n) (Room pages count limit n)
-unfolding is_room
-room_tells pages count limit n = (
-  λ h. let p = and_true _ _ h in let q : nat_le (n + count) limit ≡ true = p.1 in record { passes = (all_from_tells is_conventional pages n count).0 p.0; ends = grind (arith, nat_tests) },
-  λ r. let l = r.ends in let q : nat_le (n + count) limit ≡ true = grind (arith, nat_tests) in rw ((all_from_tells is_conventional pages n count).1 r.passes) q,
-)
+module _ (pages rest : List Page) (count lowest limit start c top : ℕ) (page : Page) (some : 0 < count) (more : 0 < c) (short : top < start + c + count)
+    (before : Searched pages count lowest limit (start + c) top) (e : drop start pages ≡ replicate c page ++ rest) where
+  -- a run of conventional pages
+  longer : is_conventional page ≡ true → Searched pages count lowest limit start top
+  longer conv = record {
+    inside = before.inside;
+    under = before.under;
+    stretch = λ k d low high. elim (leb_tells (start + c) k) [
+      | inl p ↦ before.stretch k d p.1 high
+      | inr p ↦ (let l : k < start + c = p.1 in rw (here pages rest start c k page d e low l) conv)
+    ];
+    rooms = before.rooms;
+  }
 
-fails : (pages : List Page) (count limit n : ℕ) → (Room pages count limit n → ⊥) → is_room pages count limit n ≡ false
-fails pages count limit n h = elim (tells (is_room pages count limit n)) [ inl holds ↦ absurd (h ((room_tells pages count limit n).0 holds)) | inr no_room ↦ no_room ]
+  -- no room has a page of a run of others
+  not_over : is_conventional page ≡ false → (n : ℕ) → Room pages count lowest limit n → n + count ≤ start
+  not_over not_conv n r = elim (leb_tells (n + count) start) [
+    | inl p ↦ p.1
+    | inr p ↦ absurd (let over : start < n + count = p.1 in
+        let under = before.rooms n r in
+        elim (leb_tells n start) [
+          | inl q ↦ (let low : n ≤ start = q.1 in
+              let is : get_or pages start page ≡ page = here pages rest start c start page page e (omega arith) (omega arith) in
+              let conv = r.passes.each start page low over in
+              let clash : is_conventional page ≡ true = rw is at conv in cc)
+          | inr q ↦ (let low : start < n = q.1 in
+              let is : get_or pages n page ≡ page = here pages rest start c n page page e (omega arith) (omega arith) in
+              let conv = r.passes.each n page (omega arith) (omega arith) in
+              let clash : is_conventional page ≡ true = rw is at conv in cc)
+        ])
+  ]
 
-at_end : (pages : List Page) (count limit end n : ℕ) → length pages ≤ end → Room pages count limit n → Room pages count (min end limit) n
-at_end pages count limit end n last r = let i = r.passes.inside in let l = r.ends in record { passes = r.passes; ends = omega arith }
+  lower : is_conventional page ≡ false → Searched pages count lowest limit start (min top start)
+  lower not_conv =
+      let inside = before.inside in
+      let under = before.under in
+      record {
+        inside = omega arith;
+        under = omega arith;
+        stretch = λ k d low high. absurd (omega arith);
+        rooms = λ n r. let a = not_over not_conv n r in let b = before.rooms n r in omega (arith, a, b);
+      }
 
-under : (pages : List Page) (count limit end n : ℕ) → Room pages count (min end limit) n → Room pages count limit n
-under pages count limit end n r = let l = r.ends in record { passes = r.passes; ends = omega arith }
+  step_by : (b : Bool) → is_conventional page ≡ b → Searched pages count lowest limit start (if b then top else min top start)
+  step_by true b = longer b
+  step_by false b = lower b
 
-all_seen : (pages : List Page) (count limit end : ℕ) (best : Option ℕ) → length pages ≤ end → Best (Room pages count (min end limit)) best → IsGreatest (is_room pages count limit) best
-all_seen pages count limit end None last h = λ n. fails pages count limit n (λ r. h n (at_end pages count limit end n last r))
-all_seen pages count limit end (Some b) last h = (
-  (room_tells pages count limit b).1 (under pages count limit end b h.0),
-  λ n t. h.1 n (at_end pages count limit end n last ((room_tells pages count limit n).0 t)),
-)
+-- a run more, the last one before a place
+pub step : (runs : List Run) (count lowest limit start place n top top' : ℕ) (d : Run) → 0 < count → NoneEmpty runs → top < start + count → LastRun runs place start n d → n ≡ (get_or runs (place - 1) d).count
+    → Searched (all_pages runs) count lowest limit start top → top' ≡ (if is_conventional (get_or runs (place - 1) d).page then top else min top (start - n)) → Searched (all_pages runs) count lowest limit (start - n) top'
+step runs count lowest limit start place n top top' d some all short last e before t =
+    let fits = last.fits in
+    let back : start ≡ start - n + n = omega arith in
+    let pages : drop (start - n) (all_pages runs) ≡ replicate n (get_or runs (place - 1) d).page ++ all_pages (drop (place - 1 + 1) runs)
+    = last.pages ∙ ap (λ k. replicate k (get_or runs (place - 1) d).page ++ all_pages (drop (place - 1 + 1) runs)) (sym e) in
+    let before' : Searched (all_pages runs) count lowest limit (start - n + n) top = subst (λ k. Searched (all_pages runs) count lowest limit k top) back before in
+    subst (λ k. Searched (all_pages runs) count lowest limit (start - n) k) (sym t)
+    (step_by (all_pages runs) (all_pages (drop (place - 1 + 1) runs)) count lowest limit (start - n) n top (get_or runs (place - 1) d).page some (last.some all) (omega arith) before' pages
+    (is_conventional (get_or runs (place - 1) d).page) refl)
 
-pub finish : (pages : List Page) (count limit end room : ℕ) (best : Option ℕ) → Scan pages count limit end room best → drop end pages ≡ [] → IsGreatest (is_room pages count limit) best
-finish pages count limit end room best scan e =
-    let l = ap length e in
-    all_seen pages count limit end best (omega (arith, l, length-drop end pages)) scan.greatest
+-- no room is left above the lowest start
+pub none_left : (pages : List Page) (count lowest limit start top : ℕ) → top < lowest + count → Searched pages count lowest limit start top → IsHighest (is_room pages count lowest limit) None
+none_left pages count lowest limit start top over s = λ n. fails pages count lowest limit n (λ r. let low = r.begins in let high = s.rooms n r in omega (arith, low, high))
+
+-- nor below the lowest run
+pub none_below : (pages : List Page) (count lowest limit start top : ℕ) → start ≡ 0 → top < start + count → Searched pages count lowest limit start top → IsHighest (is_room pages count lowest limit) None
+none_below pages count lowest limit start top e short s = λ n. fails pages count lowest limit n (λ r. let high = s.rooms n r in omega (arith, high))
+
+-- the conventional pages below the top are enough
+pub found : (pages : List Page) (count lowest limit start top best : ℕ) → lowest + count ≤ top → start + count ≤ top → best ≡ top - count → Searched pages count lowest limit start top → IsHighest (is_room pages count lowest limit) (Some best)
+found pages count lowest limit start top best low enough e s =
+    let inside = s.inside in
+    let under = s.under in (
+      (room_tells pages count lowest limit best).1 (record {
+        passes = record { inside = omega arith; each = λ k d from to. s.stretch k d (omega arith) (omega arith) };
+        begins = omega arith;
+        ends = omega arith;
+      }),
+      λ n t. (let high = s.rooms n ((room_tells pages count lowest limit n).0 t) in omega (arith, high)),
+    )

@@ -12,25 +12,26 @@ meets base kind at count start = if kind == 0 then true else (if kind == 1 then 
 unfoldable pub is_fit : PageList → ℕ → ℕ → ℕ → ℕ → Bool
 is_fit m kind at count start = all_from is_conventional m.pages start count && meets m.base kind at count start
 
--- so many pages from a start on are conventional, and end at most at a limit, in pages
-unfoldable pub is_room : List Page → ℕ → ℕ → ℕ → Bool
-is_room pages count limit start = all_from is_conventional pages start count && nat_le (start + count) limit
+-- so many pages from a start on are conventional, begin at least at a lowest start, and end at most at a limit,
+-- in pages
+unfoldable pub is_room : List Page → ℕ → ℕ → ℕ → ℕ → Bool
+is_room pages count lowest limit start = all_from is_conventional pages start count && (nat_le lowest start && nat_le (start + count) limit)
 
--- the greatest number below a bound that passes a test
-unfoldable pub greatest : (ℕ → Bool) → ℕ → Option ℕ
-greatest test zero = None
-greatest test (suc n) = if test n then Some n else greatest test n
+-- the highest start below a bound that passes a test
+unfoldable pub highest : (ℕ → Bool) → ℕ → Option ℕ
+highest test zero = None
+highest test (suc n) = if test n then Some n else highest test n
 
--- The fit of a request for one page or more: the greatest start whose pages are all conventional and meet
+-- The fit of a request for one page or more: the highest start whose pages are all conventional and meet
 -- the kind, or none.
 unfoldable pub fit : PageList → ℕ → ℕ → ℕ → Option ℕ
-fit m kind at count = greatest (is_fit m kind at count) (length m.pages)
+fit m kind at count = highest (is_fit m kind at count) (length m.pages)
 
--- The number passes the test, and no greater one does; or none does.
-abbrev pub IsGreatest : (ℕ → Bool) → Option ℕ → Type 0
-IsGreatest test None = (n : ℕ) → test n ≡ false
-IsGreatest test (Some best) = (test best ≡ true) × ((n : ℕ) → test n ≡ true → n ≤ best)
+-- The start passes the test, and no higher one does; or none does.
+abbrev pub IsHighest : (ℕ → Bool) → Option ℕ → Type 0
+IsHighest test None = (n : ℕ) → test n ≡ false
+IsHighest test (Some best) = (test best ≡ true) × ((n : ℕ) → test n ≡ true → n ≤ best)
 
--- The fit of one page or more is the greatest.
-abbrev pub FitIsGreatest : Type 0
-FitIsGreatest = (m : PageList) (kind at count : ℕ) → 0 < count → IsGreatest (is_fit m kind at count) (fit m kind at count)
+-- The fit of one page or more is the highest.
+abbrev pub FitIsHighest : Type 0
+FitIsHighest = (m : PageList) (kind at count : ℕ) → 0 < count → IsHighest (is_fit m kind at count) (fit m kind at count)

@@ -1,10 +1,11 @@
 -- What the definitions come to.
-use Rattle.std.specs.Prelude.{ℕ, ◌≡◌, ◌<◌, ◌≤◌, ◌+◌, ◌*◌, ◌-◌, ◌^◌, ◌⊎◌, min, Bool, true, List, [], ◌∷◌, length, slice_get, Some, Ok, is_ok, if◌then◌else◌}
+use Rattle.std.specs.Prelude.{ℕ, ◌≡◌, ◌<◌, ◌≤◌, ◌+◌, ◌*◌, ◌-◌, ◌^◌, ◌%◌, ◌⊎◌, min, Bool, true, false, List, [], ◌∷◌, length, slice_get, Some, Ok, is_ok, if◌then◌else◌}
 use Rattle.page_alloc.specs.declared.page.Owner.{Owner}
 use Rattle.page_alloc.specs.declared.page.Page.{Page}
-use Rattle.page_alloc.specs.Pages.{PageList, Whole, changed, index_of}
+use Rattle.page_alloc.specs.declared.page.Owner.TheVariants.{Free}
+use Rattle.page_alloc.specs.Pages.{PageList, Whole, changed, index_of, page_at, is_conventional, conventional}
 use Rattle.page_alloc.specs.Fit.{is_fit}
-use Rattle.page_alloc.specs.Calls.{allocation, after_allocation, freeing, after_freeing}
+use Rattle.page_alloc.specs.Calls.{allocation, after_allocation, freeing, after_freeing, owns, is_same_owner}
 
 -- The pages of a fit are there and conventional, and it meets the kind.
 pub record IsFit (m : PageList) (kind at count start : ℕ) : Type 0 where
@@ -40,6 +41,45 @@ after_call m (Release owner at pages) = after_freeing (freeing m owner at pages)
 abbrev pub is_accepted : PageList → PageCall → Bool
 is_accepted m (Allocate owner kind memory_type pages at) = is_ok (allocation m kind memory_type pages at)
 is_accepted m (Release owner at pages) = is_ok (freeing m owner at pages)
+
+-- The pages that a call may change: AllocatePages those that are conventional, FreePages the owner's.
+abbrev pub may_change : PageCall → Page → Bool
+may_change (Allocate owner kind memory_type pages at) page = is_conventional page
+may_change (Release owner at pages) page = is_same_owner page.owner owner
+
+-- A call leaves the type and the owner of each other page.
+abbrev pub CallsLeaveOthers : Type 0
+CallsLeaveOthers = (m : PageList) (call : PageCall) (at : ℕ) (page : Page) → page_at m at ≡ Some page → may_change call page ≡ false → page_at (after_call m call) at ≡ Some page
+
+abbrev pub is_release_by : Owner → PageCall → Bool
+is_release_by owner (Allocate other kind memory_type pages at) = false
+is_release_by owner (Release other at pages) = is_same_owner owner other
+
+-- So what an owner has stays the owner's in each call but the owner's own FreePages.
+abbrev pub OwnedStay : Type 0
+OwnedStay = (m : PageList) (call : PageCall) (owner : Owner) (at count : ℕ) → Whole m → is_same_owner Free owner ≡ false → is_release_by owner call ≡ false → 0 < count
+    → owns m owner at count ≡ true → owns (after_call m call) owner at count ≡ true
+
+-- pages that were given: whole pages of RAM, which no owner had
+pub record IsGiven (m : PageList) (start pages : ℕ) : Type 0 where
+  pub some : 0 < pages
+  pub on_page : start % 4096 ≡ 0
+  pub low : m.base ≤ start
+  pub high : start + 4096 * pages ≤ m.base + 4096 * length m.pages
+  pub new : (owner : Owner) (at count : ℕ) → is_same_owner Free owner ≡ false → at % 4096 ≡ 0 → 0 < count → owns m owner at count ≡ true
+      → (at + 4096 * count ≤ start) ⊎ (start + 4096 * pages ≤ at)
+
+-- Pages that AllocatePages gave are such, and the owner has them.
+abbrev pub GivenAreOwned : Type 0
+GivenAreOwned = (m : PageList) (owner : Owner) (kind memory_type pages at start : ℕ) → Whole m → allocation m kind memory_type pages at ≡ Ok start
+    → IsGiven m start pages × (owns (after_allocation (Ok start) m owner memory_type pages) owner start pages ≡ true)
+
+-- FreePages takes back what an owner has, and leaves each owner what it has apart from that.
+abbrev pub OwnedAreFreed : Type 0
+OwnedAreFreed = (m : PageList) (owner : Owner) (at pages : ℕ) → Whole m → at % 4096 ≡ 0 → 0 < pages → owns m owner at pages ≡ true
+    → (freeing m owner at pages ≡ Ok tt)
+    × ((other : Owner) (p count : ℕ) → p % 4096 ≡ 0 → (p + 4096 * count ≤ at) ⊎ (at + 4096 * pages ≤ p) → owns m other p count ≡ true
+    → owns (changed m at pages conventional) other p count ≡ true)
 
 abbrev pub after_calls : PageList → List PageCall → PageList
 after_calls m [] = m

@@ -1,13 +1,13 @@
 //! What the definitions come to. Each law is the contract of a function that does nothing.
 #![tactic(auto)]
 
-ghost use Rattle.page_alloc.specs.Fit.{FitIsGreatest};
-ghost use Rattle.page_alloc.specs.Laws.{FitMeans, FreeRestores, OthersStay, KeyCounts};
+ghost use Rattle.page_alloc.specs.Fit.{FitIsHighest};
+ghost use Rattle.page_alloc.specs.Laws.{FitMeans, FreeRestores, OthersStay, CallsLeaveOthers, OwnedStay, GivenAreOwned, OwnedAreFreed, KeyCounts};
 
-/// The fit is the greatest start that fits, or there is none.
-#[tactic(auto, using(crate::proofs::FitLemmas::fits_are_greatest))]
-pub fn fit_is_greatest()
-    ensures { FitIsGreatest }
+/// The fit is the highest start that fits, or there is none.
+#[tactic(auto, using(crate::proofs::FitLemmas::fits_are_highest))]
+pub fn fit_is_highest()
+    ensures { FitIsHighest }
 {}
 
 /// A start fits where its pages are all there and conventional and it meets the kind.
@@ -26,6 +26,28 @@ pub fn free_restores()
 #[tactic(auto, using(crate::proofs::LawLemmas::others_stay))]
 pub fn others_stay()
     ensures { OthersStay }
+{}
+
+/// A call leaves the type and the owner of each page that it may not change.
+#[tactic(auto, using(crate::proofs::OwnerLemmas::calls_leave_others))]
+pub fn calls_leave_others()
+    ensures { CallsLeaveOthers }
+{}
+
+/// What an owner has stays the owner's in each call but the owner's own FreePages.
+#[tactic(auto, using(crate::proofs::OwnerLemmas::owned_stay))]
+pub fn owned_stay()
+    ensures { OwnedStay }
+{}
+
+/// Pages that were given are whole pages of RAM, which no owner had, and the owner has them.
+pub fn given_are_owned()
+    ensures { GivenAreOwned }
+{}
+
+/// What an owner has can be taken back, and each owner keeps what it has apart from that.
+pub fn owned_are_freed()
+    ensures { OwnedAreFreed }
 {}
 
 /// After every list of calls the key has risen by one for each accepted one.

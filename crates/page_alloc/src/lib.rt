@@ -9,7 +9,10 @@ mod runs;
 #[cfg(test)]
 mod tests;
 
-pub use laws::{fit_is_greatest, fit_means, free_restores, key_counts, others_stay};
+pub use laws::{
+    calls_leave_others, fit_is_highest, fit_means, free_restores, given_are_owned, key_counts,
+    others_stay, owned_are_freed, owned_stay,
+};
 pub use layout::Layout;
 pub use map::PageMap;
 pub use page::{Owner, Page, PageRefusal, may_be_given};

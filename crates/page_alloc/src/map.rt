@@ -1,13 +1,13 @@
 //! The map of the pages of RAM.
 #![tactic(auto)]
 
-ghost use Rattle.std.specs.Prelude.{◌≡◌, ◌<◌, ◌≤◌, ◌+◌, ◌-◌, ◌*◌, ◌/◌, ℕ, IfOk, ◌^◌, IsTrue, IfSome, IfNone, OnSome, length};
+ghost use Rattle.std.specs.Prelude.{◌≡◌, ◌≢◌, ◌<◌, ◌≤◌, ◌+◌, ◌-◌, ◌*◌, ◌/◌, ℕ, IfOk, ◌^◌, IsTrue, IfSome, IfNone, OnSome, length};
 ghost use Rattle.std.specs.Option.{option_map};
 ghost use Rattle.page_alloc.specs.Layout.{IsLayout};
 ghost use Rattle.page_alloc.specs.Pages.{PageList, Whole, page_at, changed, index_of, IsNobodys};
 ghost use Rattle.page_alloc.specs.Calls.{allocation, after_allocation, owns, freeing, after_freeing};
 ghost use Rattle.page_alloc.specs.Opening.{at_opening};
-ghost use Rattle.page_alloc.specs.Fit.{IsGreatest, is_room, fit};
+ghost use Rattle.page_alloc.specs.Fit.{IsHighest, is_room, fit};
 ghost use Rattle.page_alloc.specs.Runs.{all_pages, NoneEmpty};
 
 use crate::layout::Layout;
@@ -132,6 +132,7 @@ impl PageMap {
     /// How many pages lie below the one that begins at an address.
     fn start_at(&self, at: u64) -> Option<u64>
         ensures some { IfSome result (λ start. self.now.base + 4096 * start ≡ at) }
+        ensures low { IfSome result (λ start. start < 2 ^ 52) }
         ensures none { IfNone result ((start : ℕ) → self.now.base + 4096 * start ≡ at → ⊥) }
     {
         if at < self.base || (at - self.base) % 4096 != 0 {
@@ -141,12 +142,16 @@ impl PageMap {
         }
     }
 
-    /// The greatest start of so many conventional pages that end at most at a limit, in pages from the base.
-    fn highest(&self, pages: u64, limit: u64) -> Option<u64>
-        requires { 0 < pages }
-        ensures { IsGreatest (is_room self.now.pages pages limit) result }
+    /// The highest start of so many conventional pages that begin at least at a lowest start and end at most at a
+    /// limit, in pages from the base.
+    fn highest(&self, pages: u64, lowest: u64, limit: u64) -> Option<u64>
+        requires some { 0 < pages }
+        requires few { pages ≤ length self.now.pages }
+        requires low { lowest < 2 ^ 52 }
+        ensures { IsHighest (is_room self.now.pages pages lowest limit) result }
     {
-        highest_room(self.runs.as_slice(), pages, limit)
+        let runs = self.runs.as_slice();
+        highest_room(runs, self.total(), pages, lowest, limit)
     }
 
     /// The address as the start of so many conventional pages, in pages from the base.
@@ -159,11 +164,7 @@ impl PageMap {
         let Some(start) = self.start_at(at) else {
             return None;
         };
-        if self.highest(pages, start + pages) == Some(start) {
-            Some(start)
-        } else {
-            None
-        }
+        self.highest(pages, start, start + pages)
     }
 
     /// The fit of a request, by its kind.
@@ -176,8 +177,8 @@ impl PageMap {
             return None;
         }
         match kind {
-            0 => self.highest(pages, self.total()),
-            1 => self.highest(pages, self.pages_up_to(at)),
+            0 => self.highest(pages, 0, self.total()),
+            1 => self.highest(pages, 0, self.pages_up_to(at)),
             _ => self.fit_at(at, pages),
         }
     }
@@ -210,18 +211,44 @@ impl PageMap {
         requires low { self.old.base ≤ at }
         requires inside { index_of self.old at + count ≤ length self.old.pages }
         requires nobodys { IsNobodys page }
-        ensures { self.new ≡ changed self.old at count page }
+        ensures map { self.new ≡ changed self.old at count page }
+        ensures base { self.new.base ≡ self.old.base }
+        ensures length { length self.new.pages ≡ length self.old.pages }
     {
         let start = (at - self.base) / 4096;
         fill(&mut self.runs, start, count, page);
         self.key = self.key.saturating_add(1);
     }
 
+    /// What `allocate` would answer.
+    #[tactic(auto, unfolding(crate::specs::Calls::allocation))]
+    pub fn allocation(
+        &self,
+        kind: u32,
+        memory_type: u32,
+        pages: u64,
+        at: u64,
+    ) -> Result<u64, PageRefusal>
+        ensures answer { result ≡ allocation self.now kind memory_type pages at }
+        ensures some { IfOk result (λ start. 0 < pages) }
+        ensures other { IfOk result (λ start. memory_type ≢ 7) }
+        ensures low { IfOk result (λ start. self.now.base ≤ start) }
+        ensures high { IfOk result (λ start. start + 4096 * pages ≤ self.now.base + 4096 * length self.now.pages) }
+    {
+        if !is_request(kind, memory_type, pages) {
+            return Err(PageRefusal::Invalid);
+        }
+        match self.fit(kind, at, pages) {
+            Some(start) => Ok(self.address(start)),
+            None if kind == 2 => Err(PageRefusal::NotFound),
+            None => Err(PageRefusal::NoPages),
+        }
+    }
+
     /// Gives an owner conventional pages, as AllocatePages does (UEFI 2.10, section 7.2), and answers the address of
     /// the first. Kind 0 takes the highest start, kind 1 the highest whose last byte is at most `at`, and kind 2 the
     /// start `at`. `Invalid` is for a kind above 2, no pages, or a memory type that pages aren't given; where nothing
     /// fits, kind 2 answers `NotFound` and the others `NoPages`. It takes no memory.
-    #[tactic(auto, unfolding(crate::specs::Calls::allocation))]
     pub fn allocate(
         &mut self,
         owner: Owner,
@@ -232,19 +259,15 @@ impl PageMap {
     ) -> Result<u64, PageRefusal>
         ensures answer { result ≡ allocation self.old kind memory_type pages at }
         ensures map { self.new ≡ after_allocation result self.old owner memory_type pages }
+        ensures base { self.new.base ≡ self.old.base }
+        ensures length { length self.new.pages ≡ length self.old.pages }
+        ensures low { IfOk result (λ start. self.old.base ≤ start) }
+        ensures high { IfOk result (λ start. start + 4096 * pages ≤ self.old.base + 4096 * length self.old.pages) }
     {
-        if !is_request(kind, memory_type, pages) {
-            return Err(PageRefusal::Invalid);
-        }
-        match self.fit(kind, at, pages) {
-            Some(start) => {
-                let given = self.address(start);
-                self.change(given, pages as u32, Page { memory_type, owner });
-                Ok(given)
-            }
-            None if kind == 2 => Err(PageRefusal::NotFound),
-            None => Err(PageRefusal::NoPages),
-        }
+        self.whole();
+        let start = self.allocation(kind, memory_type, pages, at)?;
+        self.change(start, pages as u32, Page { memory_type, owner });
+        Ok(start)
     }
 
     /// Whether so many pages from an address on, a multiple of 4,096, are all an owner's.
@@ -271,14 +294,18 @@ impl PageMap {
     pub fn free(&mut self, owner: Owner, at: u64, pages: u64) -> Result<(), PageRefusal>
         ensures answer { result ≡ freeing self.old owner at pages }
         ensures map { self.new ≡ after_freeing result self.old at pages }
+        ensures base { self.new.base ≡ self.old.base }
+        ensures length { length self.new.pages ≡ length self.old.pages }
+        ensures low { IfOk result (λ done. self.old.base ≤ at) }
+        ensures high { IfOk result (λ done. at + 4096 * pages ≤ self.old.base + 4096 * length self.old.pages) }
     {
         if at % 4096 != 0 || pages == 0 {
             return Err(PageRefusal::Invalid);
         }
+        self.whole();
         if !self.owns(owner, at, pages) {
             return Err(PageRefusal::NotFound);
         }
-        self.whole();
         self.change(at, pages as u32, CONVENTIONAL);
         Ok(())
     }

@@ -1,12 +1,12 @@
 //! Runs of equal pages.
 #![tactic(auto)]
 
-ghost use Rattle.std.specs.Prelude.{IsTrue, ◌≡◌, ◌≤◌, ◌<◌, ◌+◌, ◌-◌, ◌/◌, ◌^◌, IfOk, Some, None, length, nat_le, if◌then◌else◌, vec_capacity, vec_len, take, drop, ◌++◌, ℕ, slice_get, slice_index_or};
+ghost use Rattle.std.specs.Prelude.{IsTrue, ◌≡◌, ◌≤◌, ◌<◌, ◌+◌, ◌-◌, ◌/◌, ◌^◌, min, IfOk, Some, None, length, nat_le, if◌then◌else◌, vec_capacity, vec_len, take, drop, ◌++◌, ℕ, slice_get, slice_index_or};
 ghost use Rattle.page_alloc.specs.Layout.{IsLayout};
 ghost use Rattle.page_alloc.specs.Opening.{opening_pages};
 ghost use Rattle.page_alloc.specs.Pages.{is_conventional, all_from, with_pages};
 ghost use Rattle.page_alloc.specs.Calls.{is_same_owner};
-ghost use Rattle.page_alloc.specs.Fit.{IsGreatest, is_room};
+ghost use Rattle.page_alloc.specs.Fit.{IsHighest, is_room};
 ghost use Rattle.page_alloc.specs.Runs.{all_pages, NoneEmpty};
 
 use crate::layout::Layout;
@@ -68,44 +68,42 @@ pub fn page_in(runs: &[Run], index: u64) -> Option<Page>
     None
 }
 
-/// Where the conventional pages begin that end with a run, in pages: where they began before it, or behind it.
-fn room_behind(run: &Run, room: u64, end: u64) -> u64
-    ensures { result ≡ (if is_conventional run.now.page then room else end) }
+/// Where the conventional pages end that begin with a run, in pages: where those behind it end, or at its start.
+fn room_end(run: &Run, start: u64, top: u64) -> u64
+    ensures { result ≡ (if is_conventional run.now.page then top else min top start) }
 {
     if run.page.memory_type == CONVENTIONAL.memory_type {
-        room
+        top
     } else {
-        end
+        top.min(start)
     }
 }
 
-/// The greatest start of so many pages from `room` on and up to `top`.
-fn last_start(room: u64, top: u64, count: u64) -> Option<u64>
-    ensures { result ≡ (if nat_le (room + count) top then Some (top - count) else None) }
-{
-    if top >= count && top - count >= room {
-        Some(top - count)
-    } else {
-        None
-    }
-}
-
-/// The greatest start of so many conventional pages that end at most at a limit, all in pages.
-pub fn highest_room(runs: &[Run], count: u64, limit: u64) -> Option<u64>
+/// The highest start of so many conventional pages that begin at least at a lowest start and end at most at a limit,
+/// all in pages; `total` is the number of all pages. It goes over the runs from above, and stops where it finds one.
+pub fn highest_room(runs: &[Run], total: u64, count: u64, lowest: u64, limit: u64) -> Option<u64>
+    requires total { total ≡ length (all_pages runs.now) }
     requires some { 0 < count }
     requires none_empty { NoneEmpty runs.now }
     requires few { length (all_pages runs.now) < 2 ^ 32 }
-    ensures { IsGreatest (is_room (all_pages runs.now) count limit) result }
+    requires fewer { count ≤ length (all_pages runs.now) }
+    requires low { lowest < 2 ^ 52 }
+    ensures { IsHighest (is_room (all_pages runs.now) count lowest limit) result }
 {
-    let mut end = 0;
-    let mut room = 0;
-    let mut best = None;
-    for run in runs {
-        end += u64::from(run.count);
-        room = room_behind(run, room, end);
-        best = last_start(room, end.min(limit), count).or(best);
+    let mut start = total;
+    let mut top = total.min(limit);
+    for place in (0..runs.len()).rev() {
+        let run = &runs[place];
+        start -= u64::from(run.count);
+        top = room_end(run, start, top);
+        if top < lowest + count {
+            return None;
+        }
+        if top >= start + count {
+            return Some(top - count);
+        }
     }
-    best
+    None
 }
 
 /// The place of the run that holds a page, and how many of its pages lie before that page. Behind the last page it is

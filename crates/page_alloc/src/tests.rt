@@ -96,6 +96,7 @@ fn requests_at_the_edges(rt: HostRuntime) -> Result<(), Fail> {
     ];
     for (kind, memory_type, pages, at, wanted) in rows {
         let mut map = PageMap::new(rt.alloc(), &Layout::at(0x4000_0000, 4096))?;
+        assert_eq!(rt; map.allocation(kind, memory_type, pages, at), wanted);
         assert_eq!(rt;
             map.allocate(Owner::Pages, kind, memory_type, pages, at),
             wanted

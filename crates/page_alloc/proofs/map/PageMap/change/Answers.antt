@@ -17,6 +17,13 @@ invariant_of-self c =
       (let r = i.3 in omega (arith, room, r)),
     )
 
-pub returns : goal.returns
+pub returns-clause-length : goal.returns-clause-length
+returns-clause-length c =
+    let b : c.self.inside.base ≡ c.args.self.now.base = ap (λ m. m.base) c.self.view_is in
+    let p : all_pages c.self.inside.runs.items ≡ c.args.self.now.pages = ap (λ m. m.pages) c.self.view_is in
+    let inside : (c.args.at - c.self.inside.base) / 4096 + c.args.count ≤ length (all_pages c.self.inside.runs.items) = rw (b, p) c.requires.inside in
+    ap length c.fill.ensures.pages ∙ length-with_pages _ _ _ c.args.page inside ∙ ap length p
+
+pub returns-clause-map : goal.returns-clause-map
 unfolding changed
-returns c = rw (← c.self.view_is) (rw (c.fill.ensures.pages, c.saturating_add-self-inside.ensures) refl)
+returns-clause-map c = rw (← c.self.view_is) (rw (c.fill.ensures.pages, c.saturating_add-self-inside.ensures) refl)
