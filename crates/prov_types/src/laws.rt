@@ -1,0 +1,41 @@
+//! The laws about two runs.
+#![tactic(auto)]
+
+ghost use Rattle.prov_types.specs.Laws.{FitsIsSound, FitsIsReflexive, FitsIsTransitive, TransferIsSound, AsksHold, ComparesAlike, NarrowIsSound};
+
+use rv_step::asks_fit;
+
+/// A value of a kind is of each kind that it fits.
+pub fn fits_is_sound()
+    ensures { FitsIsSound }
+{}
+
+/// A kind fits itself, and all that is fitted by a kind that it fits.
+pub fn fits_is_a_preorder()
+    ensures reflexive { FitsIsReflexive }
+    ensures transitive { FitsIsTransitive }
+{}
+
+/// Values of the operands' kinds give a result of the transferred kind, in both runs.
+pub fn transfer_is_sound()
+    ensures { TransferIsSound }
+{
+    asks_fit();
+}
+
+/// What the kinds of registers say of all that an instruction asks for.
+pub fn asks_hold()
+    ensures { AsksHold }
+{
+    asks_fit();
+}
+
+/// A branch that may be judged has one outcome in both runs.
+pub fn branches_compare_alike()
+    ensures { ComparesAlike }
+{}
+
+/// On the edge that both runs take, the values are of the narrowed kinds.
+pub fn narrow_is_sound()
+    ensures { NarrowIsSound }
+{}
