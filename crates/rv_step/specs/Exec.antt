@@ -1,5 +1,5 @@
 -- What an instruction does to registers and memory, by what it asks for.
-use Rattle.std.specs.Prelude.{ℕ, ◌==◌, ◌%◌, Bool, List, Option, Some, None, Result, Ok, Err, if◌then◌else◌, slice_set, ◌<◌, IsTrue}
+use Rattle.std.specs.Prelude.{ℕ, ◌≡◌, ◌==◌, ◌%◌, Bool, List, Option, Some, None, Result, Ok, Err, if◌then◌else◌, slice_set, ◌<◌, IsTrue}
 use Rattle.rv_decode.specs.declared.insn.Insn.{Insn}
 use Rattle.rv_step.specs.declared.bus.Access.{Access}
 use Rattle.rv_step.specs.declared.bus.Access.TheVariants as access
@@ -63,6 +63,10 @@ IsFit (Load rd at width sign) = (rd < 32) × IsTrue (is_width width)
 IsFit (Store at width value) = IsTrue (is_width width)
 IsFit (Jump to rd) = rd < 32
 IsFit (Stop trap) = Unit
+
+-- both halves of an instruction of 32 bits at an address
+abbrev pub AreHalves : (ℕ → ℕ) → (ℕ → Bool) → ℕ → ℕ × ℕ → Type 0
+AreHalves bytes allowed at halves = (loaded bytes allowed at 2 ≡ Ok halves.0) × (loaded bytes allowed (plus at 2) 2 ≡ Ok halves.1)
 
 -- the instruction of two halves, or the trap
 abbrev pub or_illegal : Option (Insn × ℕ) → Result (Insn × ℕ) Trap

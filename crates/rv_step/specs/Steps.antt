@@ -21,14 +21,15 @@ StepGives lacks sure ends.Frames (Went to) old new = ⊥
 StepGives lacks sure ends.Frames (Stored at width value to) old new = (lacks at width ≡ true) × (new ≡ old)
 StepGives lacks sure ends.Frames (Stopped trap) old new = ⊥
 StepGives lacks sure ends.Memory (Went to) old new = ⊥
-StepGives lacks sure ends.Memory (Stored at width value to) old new = (sure at width ≡ false) × (new ≡ old)
+StepGives lacks sure ends.Memory (Stored at width value to) old new = (lacks at width ≡ false) × (sure at width ≡ false) × (new ≡ old)
 StepGives lacks sure ends.Memory (Stopped trap) old new = ⊥
 
--- What a step that ends so makes of the bus's content, where `after` is the content after a store.
-abbrev pub StepKeeps : {C : Type 0} → (after : ℕ → ℕ → ℕ → C) → StepEnd → Outcome → (old new : C) → Type 0
-StepKeeps after ends.Next (Went to) old new = new ≡ old
-StepKeeps after ends.Next (Stored at width value to) old new = new ≡ after at width value
-StepKeeps after ends.Next (Stopped trap) old new = ⊥
-StepKeeps after (ends.Trap trap) outcome old new = new ≡ old
-StepKeeps after ends.Frames outcome old new = new ≡ old
-StepKeeps after ends.Memory outcome old new = Unit {0}
+-- What a step that ends so makes of the bus's content, where `after` is the content after a store. After want of memory it is
+-- kept but for what isn't seen.
+abbrev pub StepKeeps : {C : Type 0} → (kept : C → C → Type 0) → (after : ℕ → ℕ → ℕ → C) → StepEnd → Outcome → (old new : C) → Type 0
+StepKeeps kept after ends.Next (Went to) old new = new ≡ old
+StepKeeps kept after ends.Next (Stored at width value to) old new = new ≡ after at width value
+StepKeeps kept after ends.Next (Stopped trap) old new = ⊥
+StepKeeps kept after (ends.Trap trap) outcome old new = new ≡ old
+StepKeeps kept after ends.Frames outcome old new = new ≡ old
+StepKeeps kept after ends.Memory outcome old new = kept old new

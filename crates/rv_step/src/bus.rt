@@ -1,10 +1,11 @@
 //! What an instruction reads and writes through.
 #![tactic(auto)]
 
-ghost use Rattle.std.specs.Prelude.{◌≡◌, ℕ, Bool, IsTrue, OnOk, OnErr};
+ghost use Rattle.std.specs.Prelude.{◌≡◌, ℕ, Bool, IsTrue, IfSome, OnOk, OnErr};
 ghost use Rattle.rv_step.specs.declared.bus.Access.{Access};
 ghost use Rattle.uh_base.specs.Bytes.{is_width, first_refused, loaded, with_number};
 ghost use Rattle.rv_step.specs.Stores.{StoreEnds, StoredIn};
+ghost use Rattle.rv_step.specs.Exec.{AreHalves};
 
 /// What an access is for: it asks for the right to read, to write or to execute.
 #[derive(Clone, Copy, Debug, PartialEq, Eq, Drop)]
@@ -44,6 +45,9 @@ pub trait Bus {
     ghost content: { Self → Self.Content };
     /// The content after a store of a number of so many bytes at an address.
     ghost after: { Self → ℕ → ℕ → ℕ → Self.Content };
+    /// Whether a content is as before but for what a guest can't see, as which pages have a frame. So much alone is kept
+    /// where memory was lacking.
+    ghost kept: { Self.Content → Self.Content → Type 0 };
     /// What no call changes, as the reference of a bus that borrows its memory.
     ghost same: { Self → Self → Type 0 };
 
@@ -60,7 +64,7 @@ pub trait Bus {
         ensures ok { OnOk result (bytes self.new ≡ with_number (bytes self.old) at width value) }
         ensures err { OnErr result (bytes self.new ≡ bytes self.old) }
         ensures same { same self.old self.new }
-        ensures content { StoredIn result (content self.old) (after self.old at width value) (content self.new) }
+        ensures content { StoredIn kept result (content self.old) (after self.old at width value) (content self.new) }
         ensures rights { allows self.new ≡ allows self.old }
         ensures end { StoreEnds result (first_refused (allows self.old Access.Store) at width)
             (lacks_frames self.old at width) (takes_no_memory self.old at width) };
@@ -68,4 +72,8 @@ pub trait Bus {
     /// The half of an instruction at an address, or the first address that can't be fetched from.
     fn fetch(&self, at: u64) -> Result<u16, u64>
         ensures { result ≡ loaded (bytes self.now) (allows self.now Access.Fetch) at 2 };
+
+    /// Both halves of an instruction of 32 bits at an address, where one look finds them. None says nothing.
+    fn fetch_both(&self, at: u64) -> Option<(u16, u16)>
+        ensures { IfSome result (AreHalves (bytes self.now) (allows self.now Access.Fetch) at) };
 }

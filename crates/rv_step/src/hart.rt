@@ -61,7 +61,7 @@ pub fn step<B: Bus>(regs: &mut Regs, bus: &mut B) -> StepEnd
         (step_of (B.allows bus.old) (state_of regs.old (B.bytes bus.old)))
         (state_of regs.old (B.bytes bus.old)) (state_of regs.new (B.bytes bus.new)) }
     ensures same { B.same bus.old bus.new }
-    ensures content { StepKeeps (B.after bus.old) result
+    ensures content { StepKeeps B.kept (B.after bus.old) result
         (step_of (B.allows bus.old) (state_of regs.old (B.bytes bus.old)))
         (B.content bus.old) (B.content bus.new) }
     ensures rights { B.allows bus.new ≡ B.allows bus.old }

@@ -33,7 +33,7 @@ fn perform<B: Bus>(ask: Ask, next: u64, regs: &mut Regs, bus: &mut B) -> StepEnd
         (done ask next (B.allows bus.old) (state_of regs.old (B.bytes bus.old)))
         (state_of regs.old (B.bytes bus.old)) (state_of regs.new (B.bytes bus.new)) }
     ensures same { B.same bus.old bus.new }
-    ensures content { StepKeeps (B.after bus.old) result
+    ensures content { StepKeeps B.kept (B.after bus.old) result
         (done ask next (B.allows bus.old) (state_of regs.old (B.bytes bus.old)))
         (B.content bus.old) (B.content bus.new) }
     ensures rights { B.allows bus.new ≡ B.allows bus.old }
@@ -90,7 +90,7 @@ pub(crate) fn execute<B: Bus>(insn: Insn, len: u8, regs: &mut Regs, bus: &mut B)
         (execute insn len (B.allows bus.old) (state_of regs.old (B.bytes bus.old)))
         (state_of regs.old (B.bytes bus.old)) (state_of regs.new (B.bytes bus.new)) }
     ensures same { B.same bus.old bus.new }
-    ensures content { StepKeeps (B.after bus.old) result
+    ensures content { StepKeeps B.kept (B.after bus.old) result
         (execute insn len (B.allows bus.old) (state_of regs.old (B.bytes bus.old)))
         (B.content bus.old) (B.content bus.new) }
     ensures rights { B.allows bus.new ≡ B.allows bus.old }

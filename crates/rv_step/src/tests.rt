@@ -291,6 +291,8 @@ impl Bus for Constant {
 
     ghost after = { λ bus at width value. 0 };
 
+    ghost kept = { λ old new. Unit {0} };
+
     ghost same = { λ old new. Unit {0} };
 
     ghost same_self = { λ bus. tt };
@@ -310,6 +312,11 @@ impl Bus for Constant {
 
     fn fetch(&self, _at: u64) -> Result<u16, u64> {
         Ok(0x8383)
+    }
+
+    #[tactic(auto, unfolding(uh_base::specs::Bytes::loaded, uh_base::specs::Bytes::first_refused, uh_base::specs::Bytes::number_at))]
+    fn fetch_both(&self, _at: u64) -> Option<(u16, u16)> {
+        Some((0x8383, 0x8383))
     }
 }
 
