@@ -3,3 +3,4 @@ pub mod PageLemmas
 pub mod RunLemmas
 pub mod NumberLemmas
 pub mod PartLemmas
+pub mod TouchedLemmas

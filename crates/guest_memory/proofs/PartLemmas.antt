@@ -1,14 +1,14 @@
 -- Parts of a page.
-use Rattle.std.proofs.Common.{◌≡◌, ℕ, ◌+◌, ◌*◌, ◌-◌, ◌/◌, ◌^◌, ◌<◌, ◌≤◌, Bool, true, false, List, length, get_or, refl, sym, ◌∙◌, ap, arith, slice_set, take, drop, [], ◌∷◌, ◌++◌, zero, suc, append_assoc}
-use Rattle.std.specs.Prelude.{slice_index, Result, Ok, Err, OnOk}
+use Rattle.std.proofs.Common.{◌≡◌, ℕ, ◌+◌, ◌*◌, ◌-◌, ◌^◌, ◌<◌, ◌≤◌, true, List, length, get_or, refl, sym, ◌∙◌, ap, arith, take, drop, [], ◌∷◌, ◌++◌, zero, suc, append_assoc}
+use Rattle.std.specs.Prelude.{Result, Ok, Err, OnOk, OnErr}
 use Rattle.std.proofs.Math.ListN.{set, length-set}
 use Rattle.std.proofs.Math.Seq.{take-suc-set}
 use Rattle.std.proofs.lemmas.List.{drop_more, drop-set-lt, drop-drop, take-append-drop}
 use Rattle.uh_base.specs.Bytes.{next, with_byte}
 use Rattle.guest_memory.specs.Lists.{written_over}
 use Rattle.guest_memory.specs.Runs.{bytes_from, with_bytes}
-use Rattle.guest_memory.specs.Pages.{Pages, Whole, InPage, holds, page_of, bytes_of, rights_at, is_touched}
-use Rattle.guest_memory.specs.Changes.{touch, lacks, put_to, put_part, PartGives}
+use Rattle.guest_memory.specs.Pages.{Pages, Whole, InPage, holds, bytes_of, rights_at}
+use Rattle.guest_memory.specs.Changes.{put_to, put_part, written_pages, PartGives, PagesGive}
 use Rattle.guest_memory.specs.declared.rights.PutEnd.{PutEnd}
 use Rattle.guest_memory.specs.declared.rights.PutEnd.TheVariants.{Outside, Frames, Memory}
 use Rattle.guest_memory.proofs.PageLemmas.{bytes_put_long}
@@ -92,3 +92,40 @@ pages_parted (Ok x) old new at ys gives = ap (λ (m : Pages). m.pages) gives.1
 pages_parted (Err Outside) old new at ys gives = absurd gives
 pages_parted (Err Frames) old new at ys gives = ap (λ (m : Pages). m.pages) gives.1
 pages_parted (Err Memory) old new at ys gives = ap (λ (m : Pages). m.pages) gives.2
+
+-- whole pages written
+pub bytes_written : {X : Type 0} (r : Result X PutEnd) (old new : Pages) (page : ℕ) (ys : List ℕ) → Whole old → 4096 * page + length ys ≤ 4096 * old.pages → PagesGive r old new page ys
+    → OnOk r (bytes_of new ≡ with_bytes (bytes_of old) (old.base + 4096 * page) ys)
+bytes_written (Ok x) old new page ys whole inside gives =
+    let long = whole.bytes_long in let end = whole.end in
+    ap bytes_of gives.1 ∙ same_bytes (record old { bytes = written_over old.bytes (4096 * page) ys }) (written_pages old page ys) refl
+    ∙ over_seen old (old.base + 4096 * page) (4096 * page) ys refl (omega arith) long (omega arith)
+bytes_written (Err e) old new page ys whole inside gives = tt
+
+pub bytes_unwritten : {X : Type 0} (r : Result X PutEnd) (old new : Pages) (page : ℕ) (ys : List ℕ) → PagesGive r old new page ys → OnErr r (bytes_of new ≡ bytes_of old)
+bytes_unwritten (Ok x) old new page ys gives = tt
+bytes_unwritten (Err Outside) old new page ys gives = absurd gives
+bytes_unwritten (Err Frames) old new page ys gives = ap bytes_of gives.1
+bytes_unwritten (Err Memory) old new page ys gives = same_bytes old new gives.2.rest
+
+rights_over : (m : Pages) (page : ℕ) (ys : List ℕ) → rights_at (written_pages m page ys) ≡ rights_at m
+unfolding rights_at
+rights_over m page ys = refl
+
+pub rights_written : {X : Type 0} (r : Result X PutEnd) (old new : Pages) (page : ℕ) (ys : List ℕ) → PagesGive r old new page ys → rights_at new ≡ rights_at old
+rights_written (Ok x) old new page ys gives = ap rights_at gives.1 ∙ rights_over old page ys
+rights_written (Err Outside) old new page ys gives = absurd gives
+rights_written (Err Frames) old new page ys gives = ap rights_at gives.1
+rights_written (Err Memory) old new page ys gives = same_rights old new gives.2.rest
+
+pub base_written : {X : Type 0} (r : Result X PutEnd) (old new : Pages) (page : ℕ) (ys : List ℕ) → PagesGive r old new page ys → new.base ≡ old.base
+base_written (Ok x) old new page ys gives = ap (λ (m : Pages). m.base) gives.1
+base_written (Err Outside) old new page ys gives = absurd gives
+base_written (Err Frames) old new page ys gives = ap (λ (m : Pages). m.base) gives.1
+base_written (Err Memory) old new page ys gives = ap (λ (m : Pages). m.base) gives.2.rest
+
+pub pages_written : {X : Type 0} (r : Result X PutEnd) (old new : Pages) (page : ℕ) (ys : List ℕ) → PagesGive r old new page ys → new.pages ≡ old.pages
+pages_written (Ok x) old new page ys gives = ap (λ (m : Pages). m.pages) gives.1
+pages_written (Err Outside) old new page ys gives = absurd gives
+pages_written (Err Frames) old new page ys gives = ap (λ (m : Pages). m.pages) gives.1
+pages_written (Err Memory) old new page ys gives = ap (λ (m : Pages). m.pages) gives.2.rest

@@ -1,16 +1,15 @@
 -- Runs of pages.
-use Rattle.std.proofs.Common.{◌≡◌, ◌≢◌, ℕ, ◌+◌, ◌*◌, ◌-◌, ◌/◌, ◌%◌, ◌^◌, ◌<◌, ◌≤◌, Bool, true, false, List, length, get_or, refl, sym, ◌∙◌, ap, arith, slice_set, ◌⊎◌, inl, inr, cond, get_or-set_other, get_or-set_same, replicate, [], ◌∷◌, ◌++◌, take, drop, zero, suc, not, length-append, length-drop, append_assoc, subst}
-use Rattle.std.specs.Prelude.{◌==◌, ◌&&◌, ◌||◌, nat_le, nat_lt, slice_index, slice_get, if◌then◌else◌, Option, Some, None, Result, Ok, Err, OnOk}
-use Rattle.std.proofs.lemmas.Grind.{common_steps}
+use Rattle.std.proofs.Common.{◌≡◌, ℕ, ◌+◌, ◌*◌, ◌-◌, ◌/◌, ◌<◌, ◌≤◌, Bool, true, false, List, length, get_or, refl, sym, ◌∙◌, ap, arith, cond, replicate, [], ◌∷◌, ◌++◌, take, drop, zero, suc, length-append, length-drop}
+use Rattle.std.specs.Prelude.{◌&&◌, nat_le, nat_lt, slice_index, slice_get, if◌then◌else◌, Some, None, Result, Ok, Err}
 use Rattle.std.proofs.lemmas.Bool.Decides.{nat_tests}
-use Rattle.std.proofs.lemmas.List.{length-replicate, length-take, take_at, take-append-drop, places, get_or-append_right, get_or_append_left, get_or-take, get_or-drop, get_or-replicate, get_or_past}
+use Rattle.std.proofs.lemmas.List.{length-replicate, length-take, take_at, take-append-drop, places}
 use Rattle.std.proofs.lemmas.Option.{slice_get-get_or}
 use Rattle.std.proofs.Math.Path.{fun_ext}
 use Rattle.guest_memory.specs.declared.rights.Rights.{Rights}
 use borrow.Rule.Slice.PartMut.{put_mid}
 use Rattle.guest_memory.specs.Lists.{count_true, filled}
-use Rattle.guest_memory.specs.Pages.{Pages, Whole, all_rights, holds, page_of, bytes_of, rights_at, is_touched, or_false}
-use Rattle.guest_memory.specs.Changes.{ReserveGives, reserved, has_pages, SomeUntouched, TouchedBesides, cleared, with_rights, in_run}
+use Rattle.guest_memory.specs.Pages.{Pages, Whole, all_rights, holds, page_of, bytes_of, rights_at}
+use Rattle.guest_memory.specs.Changes.{ReserveGives, reserved, has_pages, cleared, with_rights, in_run, in_range, zeroed}
 use Rattle.guest_memory.specs.declared.rights.PutEnd.{PutEnd}
 use Rattle.guest_memory.specs.declared.rights.PutEnd.TheVariants.{Outside, Frames, Memory}
 
@@ -75,11 +74,11 @@ count_filled marks i n = let a = count_parts marks i n in let b = count_over mar
 pub count_emptied : (marks : List Bool) (i n : ℕ) → count_true (filled marks i n false) + count_true (take n (drop i marks)) ≡ count_true marks
 count_emptied marks i n = let a = count_parts marks i n in let b = count_over marks (replicate n false) i n in let c = count_no n in omega arith
 
-length_filled : {X : Type 0} (xs : List X) (i n : ℕ) (x : X) → i + n ≤ length xs → length (filled xs i n x) ≡ length xs
+pub length_filled : {X : Type 0} (xs : List X) (i n : ℕ) (x : X) → i + n ≤ length xs → length (filled xs i n x) ≡ length xs
 length_filled xs i n x h = simp (length-append, length-take, length-drop, length-replicate) (omega arith)
 
 -- an element of a list with one value at some places
-at_filled : {X : Type 0} (xs : List X) (i n k : ℕ) (x d : X) → i + n ≤ length xs → get_or (filled xs i n x) k d ≡ cond (nat_le i k && nat_lt k (i + n)) x (get_or xs k d)
+pub at_filled : {X : Type 0} (xs : List X) (i n k : ℕ) (x d : X) → i + n ≤ length xs → get_or (filled xs i n x) k d ≡ cond (nat_le i k && nat_lt k (i + n)) x (get_or xs k d)
 at_filled xs i n k x d h = grind (arith, places, nat_tests)
 
 -- at an address of memory the test by places is that by addresses
@@ -103,11 +102,11 @@ bytes_cleared old new page count whole inside e =
     ∙ cleared_by (holds old a) (nat_le (4096 * page) (a - old.base) && nat_lt (a - old.base) (4096 * page + 4096 * count)) (in_run old page count a)
     (slice_index old.bytes (a - old.base)) (same_test old.base old.pages page count a inside)))
 
-same_page_test : (base pages page count a : ℕ) → page + count ≤ pages → (nat_le base a && nat_lt a (base + 4096 * pages)) ≡ true
+pub same_page_test : (base pages page count a : ℕ) → page + count ≤ pages → (nat_le base a && nat_lt a (base + 4096 * pages)) ≡ true
     → (nat_le page ((a - base) / 4096) && nat_lt ((a - base) / 4096) (page + count)) ≡ (nat_le (base + 4096 * page) a && nat_lt a (base + 4096 * (page + count)))
 same_page_test base pages page count a inside h = grind (arith, nat_tests)
 
-outside_run : (base pages page count a : ℕ) → page + count ≤ pages → (nat_le base a && nat_lt a (base + 4096 * pages)) ≡ false
+pub outside_run : (base pages page count a : ℕ) → page + count ≤ pages → (nat_le base a && nat_lt a (base + 4096 * pages)) ≡ false
     → (nat_le (base + 4096 * page) a && nat_lt a (base + 4096 * (page + count))) ≡ false
 outside_run base pages page count a inside h = grind (arith, nat_tests)
 
@@ -180,3 +179,28 @@ base_reserved r old new page count gives = ap (λ (m : Pages). m.base) (only_mar
 
 pub pages_reserved : {X : Type 0} (r : Result X PutEnd) (old new : Pages) (page count : ℕ) → ReserveGives r old new page count → new.pages ≡ old.pages
 pages_reserved r old new page count gives = ap (λ (m : Pages). m.pages) (only_marks r old new page count gives)
+
+-- zeros at a part
+zero_test : (base at len a : ℕ) → base ≤ at → base ≤ a → (nat_le (at - base) (a - base) && nat_lt (a - base) (at - base + len)) ≡ (nat_le at a && nat_lt a (at + len))
+zero_test base at len a low here = grind (arith, nat_tests)
+
+outside_zeros : (m : Pages) (at len a : ℕ) → m.base ≤ at → at + len ≤ m.base + 4096 * m.pages → holds m a ≡ false → in_range at len a ≡ false
+outside_zeros m at len a low high h = grind (arith, nat_tests)
+
+zero_by : (m : Pages) (at len a : ℕ) → Whole m → m.base ≤ at → at + len ≤ m.base + 4096 * m.pages → (h : Bool) → holds m a ≡ h
+    → cond h (slice_index (filled m.bytes (at - m.base) len 0) (a - m.base)) 0 ≡ cond (in_range at len a) 0 (cond h (slice_index m.bytes (a - m.base)) 0)
+zero_by m at len a whole low high true h =
+    let long = whole.bytes_long in
+    let here : m.base ≤ a = grind (arith, nat_tests) in
+    at_filled m.bytes (at - m.base) len (a - m.base) 0 0 (omega arith)
+    ∙ ap (λ t. cond t 0 (slice_index m.bytes (a - m.base))) (zero_test m.base at len a low here)
+zero_by m at len a whole low high false h = rw (outside_zeros m at len a low high h) refl
+
+pub bytes_zeroed : (old new : Pages) (at len : ℕ) → Whole old → old.base ≤ at → at + len ≤ old.base + 4096 * old.pages → new ≡ zeroed old at len
+    → bytes_of new ≡ (λ here. if in_range at len here then 0 else bytes_of old here)
+unfolding bytes_of
+bytes_zeroed old new at len whole low high e = rw e (fun_ext (λ a. zero_by old at len a whole low high (holds old a) refl))
+
+pub rights_zeroed : (old new : Pages) (at len : ℕ) → new ≡ zeroed old at len → rights_at new ≡ rights_at old
+unfolding rights_at
+rights_zeroed old new at len e = rw e refl

@@ -2,7 +2,7 @@
 use Rattle.std.specs.Prelude.{ℕ, zero, suc, ◌≡◌, ◌+◌, ◌-◌, ◌*◌, ◌/◌, ◌%◌, ◌<◌, ◌≤◌, ◌==◌, ◌&&◌, ◌||◌, not, nat_lt, nat_le, Bool, true, false, List, length, Result, Ok, Err, slice_set}
 use Rattle.uh_base.specs.Bytes.{next}
 use Rattle.guest_memory.specs.Lists.{filled, written_over, count_true}
-use Rattle.guest_memory.specs.Pages.{Pages, holds, page_of, is_touched, all_rights}
+use Rattle.guest_memory.specs.Pages.{Pages, holds, page_of, is_touched, all_rights, bytes_of, rights_at, touched_at}
 use Rattle.guest_memory.specs.declared.rights.Rights.{Rights}
 use Rattle.guest_memory.specs.declared.rights.PutEnd.{PutEnd}
 use Rattle.guest_memory.specs.declared.rights.PutEnd.TheVariants.{Outside, Frames, Memory}
@@ -113,3 +113,19 @@ with_rights m page count rights = record m { rights = filled m.rights page count
 -- whether an address is in one of so many pages, from a page on
 abbrev pub in_run : Pages → ℕ → ℕ → ℕ → Bool
 in_run m page count at = nat_le (m.base + 4096 * page) at && nat_lt at (m.base + 4096 * (page + count))
+
+-- whether an address is one of so many, from an address on
+abbrev pub in_range : ℕ → ℕ → ℕ → Bool
+in_range from len at = nat_le from at && nat_lt at (from + len)
+
+-- the memory with zeros at so many addresses, from one on
+abbrev pub zeroed : Pages → ℕ → ℕ → Pages
+zeroed m at len = record m { bytes = filled m.bytes (at - m.base) len 0 }
+
+-- what stays where a call lacks memory: all but the marks, of which at most more are set
+pub record OnlyMarks (old new : Pages) : Type 0 where
+  pub base : new.base ≡ old.base
+  pub pages : new.pages ≡ old.pages
+  pub bytes : bytes_of new ≡ bytes_of old
+  pub rights : rights_at new ≡ rights_at old
+  pub touched : (at : ℕ) → touched_at old at ≡ true → touched_at new at ≡ true

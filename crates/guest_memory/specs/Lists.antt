@@ -1,5 +1,5 @@
 -- Lists with a part written over.
-use Rattle.std.specs.Prelude.{ℕ, suc, ◌+◌, Bool, List, [], ◌∷◌, ◌++◌, length, take, drop, replicate, if◌then◌else◌}
+use Rattle.std.specs.Prelude.{ℕ, suc, Bool, List, [], ◌∷◌, ◌++◌, length, take, drop, replicate, if◌then◌else◌}
 
 -- the list with another written over it from an index on
 abbrev pub written_over : {X : Type 0} → List X → ℕ → List X → List X

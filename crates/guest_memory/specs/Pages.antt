@@ -1,5 +1,5 @@
 -- The memory of a guest: its bytes, and the rights and the mark of each page.
-use Rattle.std.specs.Prelude.{ℕ, ◌≡◌, ◌+◌, ◌-◌, ◌*◌, ◌/◌, ◌%◌, ◌^◌, ◌≤◌, ◌&&◌, nat_lt, nat_le, Bool, true, false, List, length, Option, Some, None, if◌then◌else◌, slice_index, slice_get}
+use Rattle.std.specs.Prelude.{ℕ, ◌≡◌, ◌+◌, ◌-◌, ◌*◌, ◌/◌, ◌%◌, ◌^◌, ◌≤◌, ◌==◌, ◌&&◌, nat_lt, nat_le, Bool, true, false, List, length, Option, Some, None, if◌then◌else◌, slice_index, slice_get}
 use Rattle.guest_memory.specs.Lists.{count_true}
 use Rattle.guest_memory.specs.declared.rights.Rights.{Rights}
 
@@ -48,6 +48,18 @@ or_false (Some mark) = mark
 
 abbrev pub is_touched : Pages → ℕ → Bool
 is_touched m page = or_false (slice_get m.touched page)
+
+-- whether the page of each address is touched, false outside
+unfoldable pub touched_at : Pages → ℕ → Bool
+touched_at m = λ at. if holds m at then is_touched m (page_of m at) else false
+
+-- whether two addresses lie in one page
+abbrev pub same_page : ℕ → ℕ → Bool
+same_page a b = a / 4096 == b / 4096
+
+-- the marks with that of the page of an address
+abbrev pub with_mark : (ℕ → Bool) → ℕ → ℕ → Bool
+with_mark marks at = λ a. if same_page at a then true else marks a
 
 -- so many bytes that lie in one page of memory
 pub record InPage (m : Pages) (at width : ℕ) : Type 0 where

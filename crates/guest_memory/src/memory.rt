@@ -1,14 +1,14 @@
 //! The memory of a guest in one piece.
 #![tactic(auto)]
 
-ghost use Rattle.std.specs.Prelude.{◌≡◌, ◌<◌, ◌≤◌, ◌+◌, ◌*◌, ◌-◌, ◌%◌, ◌^◌, ℕ, true, false, IsTrue, IfOk, OnOk, Some, None, length, replicate, slice_get, if◌then◌else◌};
+ghost use Rattle.std.specs.Prelude.{◌≡◌, ◌<◌, ◌≤◌, ◌+◌, ◌*◌, ◌-◌, ◌/◌, ◌%◌, ◌^◌, ℕ, true, false, IsTrue, IfOk, OnOk, OnErr, Some, None, length, replicate, slice_get, if◌then◌else◌};
 ghost use Rattle.uh_base.specs.Bytes.{is_width, number_at, with_byte, with_number};
 ghost use Rattle.guest_memory.specs.Lists.{count_true};
 ghost use Rattle.guest_memory.specs.Runs.{bytes_from, with_bytes};
-ghost use Rattle.guest_memory.specs.Pages.{Pages, Whole, InPage, all_rights, holds, page_of, bytes_of, rights_at, is_touched};
-ghost use Rattle.guest_memory.specs.Changes.{TouchGives, PutGives, NumberGives, PartGives, PagesGive, ReserveGives, put_number, has_pages, cleared, with_rights, in_run};
+ghost use Rattle.guest_memory.specs.Pages.{Pages, Whole, InPage, all_rights, holds, page_of, bytes_of, rights_at, is_touched, touched_at, with_mark};
+ghost use Rattle.guest_memory.specs.Changes.{TouchGives, PutGives, NumberGives, PartGives, PagesGive, ReserveGives, put_number, has_pages, cleared, with_rights, in_run, in_range, zeroed};
 
-use crate::parts::{count_part, fill, number_of, write_low};
+use crate::parts::{bytes_are_bytes, count_part, fill, number_of, write_low};
 use crate::rights::{PutEnd, Rights};
 use std::alloc::{AllocError, Global};
 use std::marker::Model;
@@ -83,6 +83,14 @@ impl GuestMemory {
         let _ = &self.base;
     }
 
+    /// Every byte is below 256.
+    #[tactic(auto, unfolding(crate::specs::Pages::bytes_of))]
+    pub fn bytes_fit(&self)
+        ensures { (at : ℕ) → bytes_of self.now at < 256 }
+    {
+        bytes_are_bytes(&self.bytes);
+    }
+
     #[inline(always)]
     fn holds(&self, at: u64) -> bool
         ensures { result ≡ holds self.now at }
@@ -123,6 +131,13 @@ impl GuestMemory {
         self.rights[page as usize]
     }
 
+    /// How many pages it has.
+    pub fn pages(&self) -> u32
+        ensures { result ≡ self.now.pages }
+    {
+        self.pages
+    }
+
     /// How many pages are touched.
     pub fn touched(&self) -> u32
         ensures { result ≡ count_true self.now.touched }
@@ -150,11 +165,12 @@ impl GuestMemory {
         }
     }
 
-    /// A copy of the touched marks, one for each page.
-    pub fn touched_marks(&self, alloc: Global) -> Result<Vec<bool>, AllocError>
-        ensures { IfOk result (λ marks. marks.items ≡ self.now.touched) }
+    /// Copies the touched marks, one for each page. No memory is taken.
+    pub fn copy_marks(&self, to: &mut [bool])
+        requires { length to.old ≡ self.now.pages }
+        ensures { to.new ≡ self.now.touched }
     {
-        Vec::from_slice(alloc, &self.touched)
+        to.copy_from_slice(&self.touched);
     }
 
     #[inline(always)]
@@ -186,10 +202,11 @@ impl GuestMemory {
     }
 
     /// Puts a byte at an address and touches its page.
-    #[tactic(auto, using(crate::proofs::PageLemmas::bytes_after, crate::proofs::PageLemmas::rights_after, crate::proofs::PageLemmas::base_after, crate::proofs::PageLemmas::pages_after))]
+    #[tactic(auto, using(crate::proofs::PageLemmas::bytes_after, crate::proofs::PageLemmas::rights_after, crate::proofs::PageLemmas::base_after, crate::proofs::PageLemmas::pages_after, crate::proofs::TouchedLemmas::touched_after))]
     pub fn put(&mut self, at: u64, byte: u8) -> Result<(), PutEnd>
         ensures gives { PutGives result self.old self.new at byte }
         ensures bytes { OnOk result (bytes_of self.new ≡ with_byte (bytes_of self.old) at byte) }
+        ensures touched { OnOk result (touched_at self.new ≡ with_mark (touched_at self.old) at) }
         ensures rights { rights_at self.new ≡ rights_at self.old }
         ensures base { self.new.base ≡ self.old.base }
         ensures pages { self.new.pages ≡ self.old.pages }
@@ -200,9 +217,10 @@ impl GuestMemory {
 
     /// Touches so many pages from a page on, counted from the base, and changes no byte. Where no page is
     /// asked for, none is outside.
-    #[tactic(auto, using(crate::proofs::RunLemmas::bytes_reserved, crate::proofs::RunLemmas::rights_reserved, crate::proofs::RunLemmas::base_reserved, crate::proofs::RunLemmas::pages_reserved))]
+    #[tactic(auto, using(crate::proofs::RunLemmas::bytes_reserved, crate::proofs::RunLemmas::rights_reserved, crate::proofs::RunLemmas::base_reserved, crate::proofs::RunLemmas::pages_reserved, crate::proofs::TouchedLemmas::touched_reserved))]
     pub fn reserve(&mut self, page: u32, count: u32) -> Result<(), PutEnd>
         ensures gives { ReserveGives result self.old self.new page count }
+        ensures touched { OnOk result (touched_at self.new ≡ (λ at. if in_run self.old page count at then true else touched_at self.old at)) }
         ensures bytes { bytes_of self.new ≡ bytes_of self.old }
         ensures rights { rights_at self.new ≡ rights_at self.old }
         ensures base { self.new.base ≡ self.old.base }
@@ -219,12 +237,26 @@ impl GuestMemory {
     }
 
     /// Writes bytes over whole pages from a page on, counted from the base, and touches these pages.
+    #[tactic(auto, using(crate::proofs::TouchedLemmas::touched_written, crate::proofs::PartLemmas::bytes_written, crate::proofs::PartLemmas::bytes_unwritten, crate::proofs::PartLemmas::rights_written, crate::proofs::PartLemmas::base_written, crate::proofs::PartLemmas::pages_written))]
     pub fn write_pages(&mut self, page: u32, bytes: &[u8]) -> Result<(), PutEnd>
         requires whole { length bytes.now % 4096 ≡ 0 }
         requires inside { 4096 * page + length bytes.now ≤ 4096 * self.old.pages }
         ensures gives { PagesGive result self.old self.new page bytes.now }
+        ensures bytes { OnOk result (bytes_of self.new ≡ with_bytes (bytes_of self.old) (self.old.base + 4096 * page) bytes.now) }
+        ensures touched { OnOk result (touched_at self.new ≡ (λ at. if in_run self.old page (length bytes.now / 4096) at then true else touched_at self.old at)) }
+        ensures kept { OnErr result (bytes_of self.new ≡ bytes_of self.old) }
+        ensures rights { rights_at self.new ≡ rights_at self.old }
         ensures base { self.new.base ≡ self.old.base }
         ensures pages { self.new.pages ≡ self.old.pages }
+    {
+        self.whole();
+        self.pages_written(page, bytes)
+    }
+
+    fn pages_written(&mut self, page: u32, bytes: &[u8]) -> Result<(), PutEnd>
+        requires whole { length bytes.now % 4096 ≡ 0 }
+        requires inside { 4096 * page + length bytes.now ≤ 4096 * self.old.pages }
+        ensures { PagesGive result self.old self.new page bytes.now }
     {
         self.whole();
         let count = (bytes.len() / PAGE) as u32;
@@ -263,12 +295,15 @@ impl GuestMemory {
     }
 
     /// Sets the bytes of so many pages to 0, gives them all rights and untouches them.
-    #[tactic(auto, using(crate::proofs::RunLemmas::bytes_cleared, crate::proofs::RunLemmas::rights_cleared))]
+    #[tactic(auto, using(crate::proofs::RunLemmas::bytes_cleared, crate::proofs::RunLemmas::rights_cleared, crate::proofs::TouchedLemmas::touched_cleared))]
     pub fn clear(&mut self, page: u32, count: u32)
         requires { page + count ≤ self.old.pages }
         ensures gives { self.new ≡ cleared self.old page count }
         ensures bytes { bytes_of self.new ≡ (λ at. if in_run self.old page count at then 0 else bytes_of self.old at) }
         ensures rights { rights_at self.new ≡ (λ at. if in_run self.old page count at then Some all_rights else rights_at self.old at) }
+        ensures touched { touched_at self.new ≡ (λ at. if in_run self.old page count at then false else touched_at self.old at) }
+        ensures base { self.new.base ≡ self.old.base }
+        ensures pages { self.new.pages ≡ self.old.pages }
     {
         self.whole();
         self.clear_pages(page, count);
@@ -287,12 +322,15 @@ impl GuestMemory {
     }
 
     /// Sets the rights of so many pages.
-    #[tactic(auto, using(crate::proofs::RunLemmas::bytes_right, crate::proofs::RunLemmas::rights_right))]
+    #[tactic(auto, using(crate::proofs::RunLemmas::bytes_right, crate::proofs::RunLemmas::rights_right, crate::proofs::TouchedLemmas::touched_right))]
     pub fn set_rights(&mut self, page: u32, count: u32, rights: Rights)
         requires { page + count ≤ self.old.pages }
         ensures gives { self.new ≡ with_rights self.old page count rights }
         ensures bytes { bytes_of self.new ≡ bytes_of self.old }
         ensures rights { rights_at self.new ≡ (λ at. if in_run self.old page count at then Some rights else rights_at self.old at) }
+        ensures touched { touched_at self.new ≡ touched_at self.old }
+        ensures base { self.new.base ≡ self.old.base }
+        ensures pages { self.new.pages ≡ self.old.pages }
     {
         self.whole();
         self.give_rights(page, count, rights);
@@ -303,6 +341,30 @@ impl GuestMemory {
         ensures { self.new ≡ with_rights self.old page count rights }
     {
         fill(&mut self.rights, page as usize, count as usize, rights);
+    }
+
+    /// Sets so many bytes from an address on to 0. Rights don't matter here, and no page is touched.
+    #[tactic(auto, using(crate::proofs::RunLemmas::bytes_zeroed, crate::proofs::RunLemmas::rights_zeroed, crate::proofs::TouchedLemmas::touched_zeroed))]
+    pub fn zero(&mut self, at: u64, len: u64)
+        requires low { self.old.base ≤ at }
+        requires high { at + len ≤ self.old.base + 4096 * self.old.pages }
+        ensures gives { self.new ≡ zeroed self.old at len }
+        ensures bytes { bytes_of self.new ≡ (λ here. if in_range at len here then 0 else bytes_of self.old here) }
+        ensures rights { rights_at self.new ≡ rights_at self.old }
+        ensures touched { touched_at self.new ≡ touched_at self.old }
+        ensures base { self.new.base ≡ self.old.base }
+        ensures pages { self.new.pages ≡ self.old.pages }
+    {
+        self.whole();
+        self.zero_bytes(at, len);
+    }
+
+    fn zero_bytes(&mut self, at: u64, len: u64)
+        requires low { self.old.base ≤ at }
+        requires high { at + len ≤ self.old.base + 4096 * self.old.pages }
+        ensures { self.new ≡ zeroed self.old at len }
+    {
+        fill(&mut self.bytes, (at - self.base) as usize, len as usize, 0);
     }
 
     /// The number of 1, 2, 4 or 8 bytes in one page, the least byte first.
@@ -328,12 +390,13 @@ impl GuestMemory {
     }
 
     /// Copies bytes into one page, and touches the page.
-    #[tactic(auto, using(crate::proofs::PartLemmas::bytes_parted, crate::proofs::PartLemmas::rights_parted, crate::proofs::PartLemmas::base_parted, crate::proofs::PartLemmas::pages_parted))]
+    #[tactic(auto, using(crate::proofs::PartLemmas::bytes_parted, crate::proofs::PartLemmas::rights_parted, crate::proofs::PartLemmas::base_parted, crate::proofs::PartLemmas::pages_parted, crate::proofs::TouchedLemmas::touched_parted))]
     pub fn put_part(&mut self, at: u64, from: &[u8]) -> Result<(), PutEnd>
         requires inside { InPage self.old at (length from.now) }
         requires some { 1 ≤ length from.now }
         ensures gives { PartGives result self.old self.new at from.now }
         ensures bytes { OnOk result (bytes_of self.new ≡ with_bytes (bytes_of self.old) at from.now) }
+        ensures touched { OnOk result (touched_at self.new ≡ with_mark (touched_at self.old) at) }
         ensures rights { rights_at self.new ≡ rights_at self.old }
         ensures base { self.new.base ≡ self.old.base }
         ensures pages { self.new.pages ≡ self.old.pages }
@@ -354,13 +417,14 @@ impl GuestMemory {
     }
 
     /// Puts a number of 1, 2, 4 or 8 bytes in one page, the least byte first, and touches the page.
-    #[tactic(auto, using(crate::proofs::NumberLemmas::bytes_numbered, crate::proofs::NumberLemmas::rights_numbered, crate::proofs::NumberLemmas::base_numbered, crate::proofs::NumberLemmas::pages_numbered))]
+    #[tactic(auto, using(crate::proofs::NumberLemmas::bytes_numbered, crate::proofs::NumberLemmas::rights_numbered, crate::proofs::NumberLemmas::base_numbered, crate::proofs::NumberLemmas::pages_numbered, crate::proofs::TouchedLemmas::touched_numbered))]
     #[inline(always)]
     pub fn put_number(&mut self, at: u64, width: u8, value: u64) -> Result<(), PutEnd>
         requires inside { InPage self.old at width }
         requires width { IsTrue (is_width width) }
         ensures gives { NumberGives result self.old self.new at width value }
         ensures bytes { OnOk result (bytes_of self.new ≡ with_number (bytes_of self.old) at width value) }
+        ensures touched { OnOk result (touched_at self.new ≡ with_mark (touched_at self.old) at) }
         ensures rights { rights_at self.new ≡ rights_at self.old }
         ensures base { self.new.base ≡ self.old.base }
         ensures pages { self.new.pages ≡ self.old.pages }

@@ -1,12 +1,19 @@
 //! Parts of lists.
 #![tactic(auto)]
 
-ghost use Rattle.std.specs.Prelude.{◌≡◌, IsTrue, ◌+◌, ◌<◌, ◌≤◌, ◌^◌, length, replicate, take, drop, vec_len};
+ghost use Rattle.std.specs.Prelude.{◌≡◌, ℕ, IsTrue, slice_index, ◌+◌, ◌<◌, ◌≤◌, ◌^◌, length, replicate, take, drop, vec_len};
 ghost use Rattle.uh_base.specs.Bytes.{is_width};
 ghost use Rattle.uh_base.specs.LittleEndian.{little_endian, low_bytes};
 ghost use Rattle.guest_memory.specs.Lists.{count_true, filled, written_over};
 
 use uh_base::{number_in, write_number};
+
+/// Each byte is below 256.
+pub(crate) fn bytes_are_bytes(bytes: &[u8])
+    ensures { (i : ℕ) → slice_index bytes.now i < 256 }
+{
+    let _ = bytes.len();
+}
 
 /// Writes one value at so many places from an index on.
 #[tactic(auto, using(crate::proofs::RunLemmas::spliced))]

@@ -1,4 +1,4 @@
-use Rattle.std.proofs.Common.{◌≡◌, ◌-◌, ℕ, true, List, Bool, arith, ap, refl, ◌∙◌, take, drop}
+use Rattle.std.proofs.Common.{◌≡◌, ◌-◌, List, Bool, arith, ap, ◌∙◌, take, drop}
 use Rattle.guest_memory.specs.Lists.{count_true}
 use Rattle.guest_memory.proofs.RunLemmas.{count_emptied, count_in, whole_parts}
 use Rattle.guest_memory.proofs.memory.GuestMemory.clear_pages.Goals as goal

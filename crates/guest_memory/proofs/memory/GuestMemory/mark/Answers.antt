@@ -1,4 +1,4 @@
-use Rattle.std.proofs.Common.{◌≡◌, ◌+◌, ◌-◌, ◌<◌, ◌≤◌, ℕ, true, List, Bool, arith, ap, refl, sym, ◌∙◌, take, drop}
+use Rattle.std.proofs.Common.{◌≡◌, ◌+◌, ◌-◌, true, List, Bool, arith, ap, refl, ◌∙◌, take, drop}
 use Rattle.guest_memory.specs.Lists.{count_true, filled}
 use Rattle.guest_memory.specs.Pages.{Pages}
 use Rattle.guest_memory.proofs.RunLemmas.{count_filled, count_in, are_there, whole_parts, reserved_is}

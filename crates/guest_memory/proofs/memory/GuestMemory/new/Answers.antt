@@ -1,4 +1,4 @@
-use Rattle.std.proofs.Common.{arith, rules, sym, ap, ◌∙◌, ◌≡◌, ℕ, Bool, false, length, replicate, ◌*◌, List, take, ◌++◌, []}
+use Rattle.std.proofs.Common.{arith, sym, ap, ◌∙◌, ◌≡◌, false, replicate}
 use Rattle.std.proofs.lemmas.Grind.{common_steps}
 use Rattle.guest_memory.specs.Lists.{count_true}
 use Rattle.guest_memory.proofs.MarkLemmas.{count_none}

@@ -1,8 +1,6 @@
-use Rattle.std.proofs.Common.{arith, rules, refl, ◌≡◌, ◌≢◌, ℕ, Bool, true, false, sym, ap, ◌∙◌}
-use Rattle.std.proofs.lemmas.Grind.{common_steps}
+use Rattle.std.proofs.Common.{◌≡◌, sym, ap, ◌∙◌}
 use Rattle.guest_memory.specs.Lists.{count_true}
-use Rattle.guest_memory.specs.Pages.{Pages, Whole, is_touched}
-use Rattle.guest_memory.proofs.MarkLemmas.{touched_already, lacks_at, whole_touch}
+use Rattle.guest_memory.proofs.MarkLemmas.{touched_already, whole_touch}
 use Rattle.guest_memory.proofs.memory.GuestMemory.touch.Goals as goal
 
 pub returns-then-is_touched : goal.returns-then-is_touched
