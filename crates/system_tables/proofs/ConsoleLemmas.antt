@@ -1,18 +1,30 @@
 -- The text of units.
-use Rattle.std.proofs.Common.{◌≡◌, ℕ, ◌+◌, ◌<◌, ◌≤◌, Bool, true, false, List, [], ◌∷◌, ◌++◌, length, drop, get_or, refl, sym, ap, ◌∙◌, arith, lit<, add-one, append_assoc}
+use Rattle.std.proofs.Common.{◌≡◌, ℕ, zero, suc, ◌+◌, ◌/◌, ◌%◌, ◌<◌, ◌≤◌, Bool, true, false, List, [], ◌∷◌, ◌++◌, length, drop, get_or, refl, sym, ap, ◌∙◌, arith, lit<, add-one, append_assoc}
 use Rattle.std.specs.Prelude.{◌==◌, ◌||◌, if◌then◌else◌}
 use Rattle.std.specs.List.{list_any}
-use Rattle.std.specs.Str.{IsUtf8}
+use Rattle.std.specs.Str.{IsAscii, IsUtf8}
 use Rattle.std.proofs.Math.Seq.{drop-cons}
 use Rattle.std.proofs.Math.ListN.{drop_of_length-le}
 use Rattle.std.proofs.Math.Bool.{or_assoc}
 use Rattle.std.proofs.lemmas.List.{append-nil}
-use Rattle.std.proofs.lemmas.Str.{IsUtf8-from_ascii, IsUtf8-append}
+use Rattle.std.proofs.lemmas.Str.{IsUtf8-from_ascii, IsUtf8-append, IsAscii-append}
 use Rattle.std.proofs.lemmas.Str.Ascii.{IsAscii-nil, IsAscii-cons}
 use Rattle.std.proofs.lemmas.Bool.Decides.{nat_tests}
-use Rattle.uh_base.specs.Hex.{hex_digits}
+use Rattle.uh_base.specs.Hex.{hex_digits, hex_digit}
 use Rattle.uh_base.specs.ConsoleText.{is_printable, is_surrogate, unit_text, units_text}
-use Rattle.uh_base.proofs.HexLemmas.{hex_is_text}
+
+-- hexadecimal digits are text
+digit_is_ascii : (d : ℕ) → d < 16 → IsAscii (hex_digit d ∷ [])
+digit_is_ascii d h zero = grind (arith, nat_tests, h)
+digit_is_ascii d h (suc i) = omega arith
+
+hex_is_ascii : (count n : ℕ) → IsAscii (hex_digits count n)
+unfolding hex_digits
+hex_is_ascii zero n = IsAscii-nil
+hex_is_ascii (suc count) n = IsAscii-append (hex_digits count (n / 16)) (hex_digit (n % 16) ∷ []) (hex_is_ascii count (n / 16)) (digit_is_ascii (n % 16) (omega arith))
+
+hex_is_text : (count n : ℕ) → IsUtf8 (hex_digits count n)
+hex_is_text count n = IsUtf8-from_ascii (hex_digits count n) (hex_is_ascii count n)
 
 -- It is text.
 printable_is_text : (unit : ℕ) → is_printable unit ≡ true → IsUtf8 (unit ∷ [])

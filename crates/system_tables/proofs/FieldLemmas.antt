@@ -9,14 +9,15 @@ use Rattle.std.proofs.lemmas.Bool.{false≢true}
 use Rattle.std.proofs.lemmas.Bool.Decides.{nat_tests}
 use Rattle.uh_base.specs.LittleEndian.{low_bytes}
 use Rattle.system_tables.specs.declared.fields.Field.{Field}
-use Rattle.system_tables.specs.Fields.{fits, all_fit, with_field, with_fields, pointer, plus, slot_pointers}
+use Rattle.uh_base.specs.Bytes.{plus}
+use Rattle.system_tables.specs.Fields.{fits, all_fit, with_field, with_fields, pointer, slot_pointers}
 
 pub long_low : (count n : ℕ) → length (low_bytes count n) ≡ count
 unfolding low_bytes
 long_low zero n = refl
 long_low (suc count) n = let h = long_low count (n / 256) in omega arith
 
-both : (a b : Bool) → (a && b) ≡ true → (a ≡ true) × (b ≡ true)
+pub both : (a b : Bool) → (a && b) ≡ true → (a ≡ true) × (b ≡ true)
 both true b h = (refl, h)
 both false b h = absurd (false≢true h)
 

@@ -24,12 +24,12 @@ tables_apart layout = record {
 }
 
 -- what is written over a part is there, and a second time it is as if the first had not been
-read_back : (xs ys : List ℕ) (i n : ℕ) → length ys ≡ n → i ≤ length xs → take n (drop i (written_over xs i ys)) ≡ ys
+pub read_back : (xs ys : List ℕ) (i n : ℕ) → length ys ≡ n → i ≤ length xs → take n (drop i (written_over xs i ys)) ≡ ys
 read_back xs ys i n l h =
     let first : drop i (written_over xs i ys) ≡ ys ++ drop (length ys) (drop i xs) = drop_at (take i xs) (ys ++ drop (length ys) (drop i xs)) i (simp length-take (omega arith)) in
     rw first (take_at ys (drop (length ys) (drop i xs)) n l)
 
-over_twice : (xs ys zs : List ℕ) (i : ℕ) → length ys ≡ length zs → i ≤ length xs → written_over (written_over xs i ys) i zs ≡ written_over xs i zs
+pub over_twice : (xs ys zs : List ℕ) (i : ℕ) → length ys ≡ length zs → i ≤ length xs → written_over (written_over xs i ys) i zs ≡ written_over xs i zs
 over_twice xs ys zs i l h =
     let long : length (take i xs) ≡ i = simp length-take (omega arith) in
     let low : take i (written_over xs i ys) ≡ take i xs = take_at (take i xs) (ys ++ drop (length ys) (drop i xs)) i long in
@@ -53,7 +53,7 @@ crc_right page at size long room =
     read_back z (low_bytes 4 crc) (at + 16) 4 lc (omega arith)
     ∙ ap (λ p. low_bytes 4 (crc_of (take size (drop at p)))) (sym again)
 
-long_crc : (page : List ℕ) (at size : ℕ) → length page ≡ 4096 → at + 24 ≤ 4096 → length (with_crc page at size) ≡ 4096
+pub long_crc : (page : List ℕ) (at size : ℕ) → length page ≡ 4096 → at + 24 ≤ 4096 → length (with_crc page at size) ≡ 4096
 unfolding with_crc
 long_crc page at size long room =
     let f0 = crc_field at 0 in
@@ -62,13 +62,13 @@ long_crc page at size long room =
     long_field z (crc_field at (crc_of (take size (drop at z)))) lz (grind (arith, nat_tests, room))
 
 -- what lies before a field stays
-low_kept : (page : List ℕ) (field : Field) (m : ℕ) → length page ≡ 4096 → m ≤ field.offset → field.offset ≤ 4096 → take m (with_field page field) ≡ take m page
+pub low_kept : (page : List ℕ) (field : Field) (m : ℕ) → length page ≡ 4096 → m ≤ field.offset → field.offset ≤ 4096 → take m (with_field page field) ≡ take m page
 unfolding with_field
 low_kept page field m long before room =
     let l : length (take field.offset page) ≡ field.offset = simp length-take (omega arith) in
     take-append-le m (take field.offset page) _ (omega arith) ∙ take-take m field.offset page before
 
-crc_low : (page : List ℕ) (at size m : ℕ) → length page ≡ 4096 → at + 24 ≤ 4096 → m ≤ at → take m (with_crc page at size) ≡ take m page
+pub crc_low : (page : List ℕ) (at size m : ℕ) → length page ≡ 4096 → at + 24 ≤ 4096 → m ≤ at → take m (with_crc page at size) ≡ take m page
 unfolding with_crc
 crc_low page at size m long room before =
     let f0 = crc_field at 0 in
@@ -76,14 +76,14 @@ crc_low page at size m long room before =
     let lz : length z ≡ 4096 = long_field page f0 long (grind (arith, nat_tests, room)) in
     low_kept z (crc_field at (crc_of (take size (drop at z)))) m lz (omega arith) (omega arith) ∙ low_kept page f0 m long (omega arith) (omega arith)
 
-over_front : (a b ys : List ℕ) (i : ℕ) → i + length ys ≤ length a → written_over (a ++ b) i ys ≡ written_over a i ys ++ b
+pub over_front : (a b ys : List ℕ) (i : ℕ) → i + length ys ≤ length a → written_over (a ++ b) i ys ≡ written_over a i ys ++ b
 over_front a b ys i room =
     let t : take i (a ++ b) ≡ take i a = take-append-le i a b (omega arith) in
     let d : drop i (a ++ b) ≡ drop i a ++ b = drop-append-le i a b (omega arith) in
     let e : drop (length ys) (drop i a ++ b) ≡ drop (length ys) (drop i a) ++ b = drop-append-le (length ys) (drop i a) b (simp length-drop (omega arith)) in
     rw (t, d, e) (ap (λ xs. take i a ++ xs) (sym (append_assoc ys (drop (length ys) (drop i a)) b)) ∙ sym (append_assoc (take i a) (ys ++ drop (length ys) (drop i a)) b))
 
-over_low : (q ys : List ℕ) (i m : ℕ) → i + length ys ≤ m → m ≤ length q → take m (written_over q i ys) ≡ written_over (take m q) i ys
+pub over_low : (q ys : List ℕ) (i m : ℕ) → i + length ys ≤ m → m ≤ length q → take m (written_over q i ys) ≡ written_over (take m q) i ys
 over_low q ys i m room long =
     let l : length (take m q) ≡ m = simp length-take (omega arith) in
     let lw : length (written_over (take m q) i ys) ≡ m = simp (length-append, length-take, length-drop) (omega arith) in
@@ -92,7 +92,7 @@ over_low q ys i m room long =
     ∙ take_at (written_over (take m q) i ys) (drop m q) m lw
 
 -- a CRC in the low part stays right where that part stays
-crc_still : (p q : List ℕ) → length p ≡ 4096 → length q ≡ 4096 → take 256 q ≡ take 256 p → HasCrc 0 120 p → HasCrc 0 120 q
+pub crc_still : (p q : List ℕ) → length p ≡ 4096 → length q ≡ 4096 → take 256 q ≡ take 256 p → HasCrc 0 120 p → HasCrc 0 120 q
 unfolding with_field
 crc_still p q lp lq same h =
     let few : take 20 q ≡ take 20 p = sym (take-take 20 256 q (lit≤ tt)) ∙ ap (take 20) same ∙ take-take 20 256 p (lit≤ tt) in

@@ -2,3 +2,4 @@ pub mod ConsoleLemmas
 pub mod FieldLemmas
 pub mod LawLemmas
 pub mod MemoryLemmas
+pub mod ReadLemmas

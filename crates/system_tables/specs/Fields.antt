@@ -1,5 +1,6 @@
 -- Numbers in the bytes of a page, the least byte first, and the CRC of a table: UEFI 2.10, 4.2.
-use Rattle.std.specs.Prelude.{ℕ, zero, suc, ◌+◌, ◌*◌, ◌%◌, ◌^◌, ◌&&◌, nat_le, Bool, true, List, [], ◌∷◌, take, drop}
+use Rattle.std.specs.Prelude.{ℕ, zero, suc, ◌+◌, ◌*◌, ◌&&◌, nat_le, Bool, true, List, [], ◌∷◌, take, drop}
+use Rattle.uh_base.specs.Bytes.{plus}
 use Rattle.uh_base.specs.LittleEndian.{low_bytes}
 use Rattle.uh_base.specs.Crc.{crc_of}
 use Rattle.guest_memory.specs.Lists.{written_over}
@@ -33,10 +34,6 @@ with_field bytes field = written_over bytes field.offset (low_bytes field.width 
 unfoldable pub with_fields : List ℕ → List Field → List ℕ
 with_fields bytes [] = bytes
 with_fields bytes (field ∷ fields) = with_fields (with_field bytes field) fields
-
--- addresses are numbers modulo 2^64
-abbrev pub plus : ℕ → ℕ → ℕ
-plus at offset = (at + offset) % 2 ^ 64
 
 -- pointers to so many slots of 16 bytes each, from one slot on
 unfoldable pub slot_pointers : ℕ → ℕ → ℕ → ℕ → List Field

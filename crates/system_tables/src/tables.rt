@@ -65,7 +65,7 @@ fn write_system_table(page: &mut [u8], layout: &Layout)
 /// Writes the pointers of the runtime services.
 fn write_runtime_slots(page: &mut [u8], slots: u64)
     requires { length page.old ≡ 4096 }
-    ensures { page.new ≡ with_fields page.old (slot_pointers (RUNTIME_TABLE + HEADER_END) slots RUNTIME_SLOT RUNTIME_COUNT) }
+    ensures { page.new ≡ with_fields page.old (slot_pointers (0x100 + 24) slots 44 14) }
 {
     write_slots(
         page,
