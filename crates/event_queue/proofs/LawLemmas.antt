@@ -1,8 +1,8 @@
 -- The laws.
 use Rattle.std.proofs.Common.{◌≡◌, ℕ, zero, suc, ◌+◌, ◌-◌, ◌^◌, ◌<◌, ◌≤◌, min, max, List, [], ◌∷◌, refl, sym, ap, ◌∙◌, subst, arith, Bool, true, false, inl, inr}
-use Rattle.std.specs.Prelude.{◌==◌, nat_le, nat_lt, Option, Some, None, if◌then◌else◌, slice_get}
+use Rattle.std.specs.Prelude.{◌==◌, nat_le, nat_lt, Option, Some, None, if◌then◌else◌, slice_get, is_some}
 use Rattle.std.specs.List.{find}
-use Rattle.std.proofs.lemmas.Bool.{le-leb, leb-true, leb-false, ltb-true, ltb-false, cond-true, cases_Bool, eqb-true, eqb-false, true≢false}
+use Rattle.std.proofs.lemmas.Bool.{le-leb, leb-true, leb-false, lt-ltb, ltb-true, ltb-false, cond-true, cases_Bool, eqb-true, eqb-false, true≢false}
 use Rattle.event_queue.specs.declared.event.Event.{Event}
 use Rattle.event_queue.specs.declared.event.Entry.{Entry}
 use Rattle.event_queue.specs.Queue.{EventList, EachOnce, greatest, next_entry}
@@ -97,6 +97,27 @@ next_is_greatest = λ q tpl. by q tpl (nat_lt tpl (greatest q)) refl
     by : (q : List Entry) (tpl : ℕ) (b : Bool) → nat_lt tpl (greatest q) ≡ b → IsNextOf q tpl (if b then find (λ entry. entry.tpl == greatest q) q else None)
     by q tpl true t = chosen q tpl (ltb-true tpl (greatest q) t) _ (first_at q (greatest q))
     by q tpl false t = λ i x g. (let b = greatest_bounds q i x g in let l = ltb-false tpl (greatest q) t in omega (arith, b, l))
+
+-- whether anything is
+has_next_of : (q : List Entry) (tpl : ℕ) (o : Option Entry) → IsNextOf q tpl o → nat_lt tpl (greatest q) ≡ is_some o
+has_next_of q tpl None h = by (nat_lt tpl (greatest q)) refl
+  where
+    by : (b : Bool) → nat_lt tpl (greatest q) ≡ b → nat_lt tpl (greatest q) ≡ false
+    by true t =
+        let l = ltb-true tpl (greatest q) t in
+        let k = greatest_reached q (omega (arith, l)) in
+        let m = h k.0 k.1 k.2 in
+        let e = k.3 in
+        absurd (omega (arith, l, m, e))
+    by false t = t
+has_next_of q tpl (Some x) h =
+    let a = h.above in
+    let e = h.earliest in
+    let b = greatest_bounds q e.0 x e.1 in
+    lt-ltb tpl (greatest q) (omega (arith, a, b))
+
+pub has_next : (q : List Entry) (tpl top : ℕ) → top ≡ greatest q → nat_lt tpl top ≡ is_some (next_entry q tpl)
+has_next q tpl top e = ap (nat_lt tpl) e ∙ has_next_of q tpl (next_entry q tpl) (next_is_greatest q tpl)
 
 -- ---- tick moments
 

@@ -9,3 +9,4 @@ pub mod Moments
 pub mod LawLemmas
 pub mod Caches
 pub mod Search
+pub mod CallLemmas

@@ -1,13 +1,15 @@
 -- Signals of several events, one after another: what they leave of each event, and the loops that make them.
-use Rattle.std.proofs.Common.{◌≡◌, ℕ, zero, suc, ◌+◌, ◌≤◌, List, [], ◌∷◌, map, length, drop, refl, sym, ap, ◌∙◌, arith, Bool, true, false}
-use Rattle.std.specs.Prelude.{Some, None, if◌then◌else◌, slice_get}
+use Rattle.std.proofs.Common.{◌≡◌, ℕ, zero, suc, ◌+◌, ◌<◌, ◌≤◌, List, [], ◌∷◌, map, length, drop, get_or, refl, sym, ap, ◌∙◌, arith, Bool, true, false, append-nil}
+use Rattle.std.specs.Prelude.{◌&&◌, Some, None, if◌then◌else◌, slice_get}
 use Rattle.std.specs.List.{filter}
-use Rattle.std.proofs.lemmas.List.{length-map, drop_all}
+use Rattle.std.proofs.lemmas.List.{length-map, drop_all, at_drop_more, at_drop_all}
+use Rattle.std.proofs.lemmas.Bool.{or_parts, cond-false}
 use Rattle.uh_base.specs.declared.guid.Guid.{Guid}
 use Rattle.event_queue.specs.declared.event.Event.{Event}
-use Rattle.event_queue.specs.Queue.{EventList, Whole, shown, is_number, event_at, lowered, raised, raised_if, raise_one, raise_each, in_group, members, companions, group_of, signalled, signal_each, group_signalled}
+use Rattle.event_queue.specs.declared.event.Entry.{Entry}
+use Rattle.event_queue.specs.Queue.{EventList, Whole, shown, is_number, is_event, is_fresh, event_at, lowered, raised, raised_if, raise_one, raise_each, in_group, members, companions, group_of, signalled, signal_each, group_signalled}
 use Rattle.event_queue.specs.Timers.{is_due, due_events}
-use Rattle.event_queue.proofs.Lists.{only_found, map_drop}
+use Rattle.event_queue.proofs.Lists.{only_found, any_found, map_drop}
 use Rattle.event_queue.proofs.Numbers.{only_event}
 
 -- events that differ in nothing but whether they are signalled
@@ -126,3 +128,52 @@ due_passed s present i e h b = ap (λ es. signal_each (due_events present es) s)
 pub due_over : (s : EventList) (present i : ℕ) → length s.events ≤ i → signal_each (due_events present (drop i s.events)) s ≡ s
 unfolding signal_each due_events
 due_over s present i h = ap (λ es. signal_each (due_events present es) s) (drop_all i s.events h)
+
+-- ---- a signal of what is no event
+
+none_raised : (n : ℕ) (es : List Event) → is_event es n ≡ false → map (raised_if n) es ≡ es
+none_raised n [] h = refl
+none_raised n (e ∷ es) h =
+    let k = or_parts (is_number n e) (is_event es n) h in
+    let same : raised_if n e ≡ e = cond-false _ _ _ k.0 in
+    rw (same, none_raised n es k.1) refl
+
+none_queued : (n : ℕ) (es : List Event) → is_event es n ≡ false → filter (λ event. is_number n event && is_fresh event) es ≡ []
+none_queued n [] h = refl
+none_queued n (e ∷ es) h = let k = or_parts (is_number n e) (is_event es n) h in rw k.0 (none_queued n es k.1)
+
+pub unknown_signalled : (s : EventList) (n : ℕ) → event_at s.events n ≡ None → s ≡ signalled s n
+unfolding signalled raise_one raise_each
+unknown_signalled s n h =
+    let gone = any_found (is_number n) s.events h in
+    sym (rw (h, none_raised n s.events gone, none_queued n s.events gone) (ap (λ (q : List Entry). record s { queue = q }) (append-nil s.queue)))
+
+-- ---- signals leave the last tick
+
+one_last : (s : EventList) (n : ℕ) → (raise_one s n).last_tick ≡ s.last_tick
+unfolding raise_one
+one_last s n = refl
+
+raised_last : (ns : List ℕ) (s : EventList) → (raise_each ns s).last_tick ≡ s.last_tick
+unfolding raise_each
+raised_last [] s = refl
+raised_last (n ∷ ns) s = raised_last ns (raise_one s n) ∙ one_last s n
+
+signal_last : (s : EventList) (n : ℕ) → (signalled s n).last_tick ≡ s.last_tick
+unfolding signalled
+signal_last s n = raised_last (companions (group_of (event_at s.events n)) s.events) (raise_one s n) ∙ one_last s n
+
+pub signals_last : (ns : List ℕ) (s : EventList) → (signal_each ns s).last_tick ≡ s.last_tick
+unfolding signal_each
+signals_last [] s = refl
+signals_last (n ∷ ns) s = signals_last ns (signalled s n) ∙ signal_last s n
+
+-- ---- a loop over numbers
+
+pub each_here : (ns : List ℕ) (i d : ℕ) (s : EventList) → i < length ns → signal_each (drop i ns) s ≡ signal_each (drop (i + 1) ns) (signalled s (get_or ns i d))
+unfolding signal_each
+each_here ns i d s h = at_drop_more (λ ms. signal_each ms s) ns i d h
+
+pub each_over : (ns : List ℕ) (i : ℕ) (s : EventList) → length ns ≤ i → signal_each (drop i ns) s ≡ s
+unfolding signal_each
+each_over ns i s h = at_drop_all (λ ms. signal_each ms s) ns i h

@@ -43,7 +43,7 @@ due_over es i least h = ap (lesser least) (at_drop_all least_due es i h) ∙ les
 
 -- ---- the first tick moment
 
-reached_min : (a b : ℕ) → a < 2 ^ 64 → reached (min a b) ≡ lesser (Some a) (reached b)
+pub reached_min : (a b : ℕ) → a < 2 ^ 64 → reached (min a b) ≡ lesser (Some a) (reached b)
 reached_min a b h = by (nat_le b (2 ^ 64 - 1)) refl
   where
     by : (c : Bool) → nat_le b (2 ^ 64 - 1) ≡ c → reached (min a b) ≡ lesser (Some a) (if c then Some b else None)

@@ -257,30 +257,8 @@ unqueue_none q part n e f = sym (all_left (is_entry n) q (place_none (is_entry n
 
 -- ---- an event found
 
-pub find_none : (es part : List Event) (n : ℕ) → part ≡ es → is_event part n ≡ false → event_at es n ≡ None
-find_none es part n e f = none_found (is_number n) es (ap (λ xs. is_event xs n) (sym e) ∙ f)
-
 pub read_here : (es : List Event) (i : ℕ) (e : Event) → i < length es → e ≡ get_or es i e → slice_get es i ≡ Some e
 read_here es i e h r = slice_get-get_or es i e h ∙ ap Some (sym r)
-
--- what stands at the place of a number
-pub record Found (es : List Event) (n i : ℕ) (e : Event) : Type 0 where
-  pub below : i < length es
-  pub here : slice_get es i ≡ Some e
-  pub event : event_at es n ≡ Some e
-  pub number : e.number ≡ n
-
-pub find_some : (low high : ℕ) (es part : List Event) (n i : ℕ) (e : Event) → Rising low es high → part ≡ es → i < length part → ((d : Event) → (get_or part i d).number ≡ n) → e ≡ get_or es i e → Found es n i e
-find_some low high es part n i e w p l f r =
-    let below : i < length es = (let k = ap length p in omega (arith, k, l)) in
-    let here = read_here es i e below r in
-    let number : e.number ≡ n = ap (λ (x : Event). x.number) r ∙ (ap (λ xs. (get_or xs i e).number) (sym p) ∙ f e) in
-    record {
-      below = below;
-      here = here;
-      event = ap (event_at es) (sym number) ∙ only_found (is_number e.number) es i e (only_event low high i es e w here);
-      number = number;
-    }
 
 pub is_event_none : (es : List Event) (n : ℕ) → event_at es n ≡ None → is_event es n ≡ false
 is_event_none es n h = any_found (is_number n) es h

@@ -198,10 +198,6 @@ abbrev pub Rising : ℕ → List Event → ℕ → Type 0
 Rising low [] high = low ≤ high
 Rising low (event ∷ events) high = (low < event.number) × Rising event.number events high
 
--- Numbers are above 8, as the first is 24, and rise.
-abbrev pub AreRising : List Event → Type 0
-AreRising events = (high : ℕ) × Rising 8 events high
-
 -- An event that is notified has a level for it.
 abbrev pub has_level : Event → Bool
 has_level event = not (notifies event.kind) || is_level event.tpl

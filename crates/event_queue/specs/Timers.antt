@@ -67,6 +67,11 @@ least_due (event ∷ events) = lesser (due_of event.timer) (least_due events)
 
 -- ---- tick moments
 
+-- the listed tick moments, and the last tick
+pub record Ticks : Type 0 where
+  pub listed : List ℕ
+  pub last : ℕ
+
 -- The tick moments are the positive multiples of 10,000 and the listed ones.
 abbrev pub IsMoment : List ℕ → ℕ → Type 0
 IsMoment ticks moment = ((0 < moment) × (moment % 10000 ≡ 0)) ⊎ Contains ticks moment

@@ -1,13 +1,13 @@
 //! Events, and their notifications.
 #![tactic(auto)]
 
-ghost use Rattle.std.specs.Prelude.{◌≡◌, ◌<◌, false, length, slice_index_or, IfSome, IfNone};
-ghost use Rattle.event_queue.specs.Queue.{in_group, entry_of, is_kept, is_event, AreRising};
+ghost use Rattle.std.specs.Prelude.{◌≡◌};
+ghost use Rattle.event_queue.specs.Queue.{in_group, entry_of, is_kept};
 ghost use Rattle.event_queue.specs.Timers.{is_due, stopped, rewound};
 
 use crate::kind::is_signal;
 use crate::timer::Timer;
-use uh_base::Guid;
+use uh_base::{Guid, Numbered};
 
 /// A live event.
 #[derive(Clone, Copy, Debug, PartialEq, Eq, Drop)]
@@ -50,6 +50,14 @@ pub struct Notify {
     pub context: u64,
     /// The task priority level that it is called at, from 5 to 30.
     pub tpl: u8,
+}
+
+impl Numbered for Event {
+    ghost number = { λ event. event.number };
+
+    fn number(&self) -> u64 {
+        self.number
+    }
 }
 
 impl Event {
@@ -112,18 +120,5 @@ impl Event {
         } else {
             *self
         }
-    }
-}
-
-/// The place of the event of a number, among events whose numbers rise.
-pub fn place_in(events: &[Event], number: u64) -> Option<usize>
-    requires { AreRising events.now }
-    ensures none { IfNone result (is_event events.now number ≡ false) }
-    ensures inside { IfSome result (λ place. place < length events.now) }
-    ensures number { IfSome result (λ place. (d : Event) → (slice_index_or events.now place d).number ≡ number) }
-{
-    match events.binary_search_by_key(&number, |event| event.number) {
-        Ok(place) => Some(place),
-        Err(_) => None,
     }
 }

@@ -1,22 +1,22 @@
 //! The events of a machine.
 #![tactic(auto)]
 
-ghost use Rattle.std.specs.Prelude.{◌≡◌, ◌<◌, ◌≤◌, ◌+◌, ◌-◌, ◌^◌, length, slice_get, IfOk, IfSome, IfNone, OnOk, OnErr, Some, None, true, false};
+ghost use Rattle.std.specs.Prelude.{◌≡◌, ◌<◌, ◌≤◌, ◌+◌, ◌-◌, ◌^◌, length, slice_get, IfOk, IfSome, IfNone, OnOk, OnErr, Some, None, is_some, true, false};
 ghost use Rattle.event_queue.specs.Kinds.{is_wait, is_signal};
 ghost use Rattle.event_queue.specs.Queue.{EventList, Whole, has_level, signal_each, shown, event_at, is_event, greatest, next_entry, notified, after_next, raise_one, signalled, group_signalled, lower_one, queue_one, without, group_kept, kept_calls};
 ghost use Rattle.event_queue.specs.Timers.{has_moment, ticked, after_tick, next_moment, with_timer, all_stopped, due_events, all_rewound, is_up_to, least_due};
 ghost use Rattle.event_queue.specs.Calls.{no_events, creation, after_creation, with_event, known, after_signal, after_close, setting, after_setting, checking, after_check, taking, after_taking};
 
-use crate::event::{Entry, Event, Notify, place_in};
+use crate::event::{Entry, Event, Notify};
 use crate::kind::{group_for, is_request, is_signal, is_timer, is_wait};
-use crate::queue::{falling_calls, greatest, keep, next_place, place_of, unqueue};
+use crate::queue::{falling_calls, greatest, keep, next_place, queued_at, unqueue};
 use crate::refusal::{Check, EventRefusal};
-use crate::ticks::{first_moment, moment_above};
+use crate::ticks::TickMoments;
 use crate::timer::Timer;
 use crate::timers::{least_due, rewind_all, stop_all};
 use std::alloc::{AllocError, Global};
 use std::marker::Model;
-use uh_base::Guid;
+use uh_base::{Guid, place_of};
 
 /// The most events that are live at a time.
 const MOST: usize = 256;
@@ -31,25 +31,23 @@ pub struct Events {
     events: Vec<Event>,
     queue: Vec<Entry>,
     made: u64,
-    ticks: Vec<u64>,
-    last_tick: u64,
-    // Kept beside the lists, so that nothing is walked where nothing is due: the greatest level in the queue, the least
-    // due moment, and the least tick moment above the last tick.
+    ticks: TickMoments,
+    // Kept beside the lists, so that nothing is walked where nothing is due: the greatest level in the queue, and the
+    // least due moment.
     top: u64,
     due: Option<u64>,
-    ahead: Option<u64>,
 }
 
 impl Model for Events {
     ghost use Rattle.std.specs.Prelude.{◌≡◌, ◌≤◌, ◌+◌, vec_capacity};
     ghost use Rattle.event_queue.specs.Queue.{EventList, Whole, greatest};
-    ghost use Rattle.event_queue.specs.Timers.{least_due, reached, first_moment};
+    ghost use Rattle.event_queue.specs.Timers.{least_due};
 
     ghost Value = { EventList };
 
-    ghost view = { λ e. record { events = e.events.items; queue = e.queue.items; made = e.made; ticks = e.ticks.items; last_tick = e.last_tick } };
+    ghost view = { λ e. record { events = e.events.items; queue = e.queue.items; made = e.made; ticks = e.ticks.listed; last_tick = e.ticks.last } };
 
-    ghost invariant = { λ e. Whole (record { events = e.events.items; queue = e.queue.items; made = e.made; ticks = e.ticks.items; last_tick = e.last_tick }) × (256 ≤ vec_capacity e.events) × (256 ≤ vec_capacity e.queue) × (e.top ≡ greatest e.queue.items) × (e.due ≡ least_due e.events.items) × (e.ahead ≡ reached (first_moment e.ticks.items (e.last_tick + 1))) };
+    ghost invariant = { λ e. Whole (record { events = e.events.items; queue = e.queue.items; made = e.made; ticks = e.ticks.listed; last_tick = e.ticks.last }) × (256 ≤ vec_capacity e.events) × (256 ≤ vec_capacity e.queue) × (e.top ≡ greatest e.queue.items) × (e.due ≡ least_due e.events.items) };
 }
 
 impl Events {
@@ -58,16 +56,13 @@ impl Events {
     pub fn new(alloc: Global, ticks: Vec<u64>) -> Result<Events, AllocError>
         ensures { IfOk result (λ events. events ≡ no_events ticks.items) }
     {
-        let ahead = moment_above(ticks.as_slice(), 0);
         Ok(Events {
             events: Vec::with_capacity(alloc, MOST)?,
             queue: Vec::with_capacity(alloc, MOST)?,
             made: 0,
-            ticks,
-            last_tick: 0,
+            ticks: TickMoments::new(ticks),
             top: 0,
             due: None,
-            ahead,
         })
     }
 
@@ -100,7 +95,7 @@ impl Events {
         ensures event { IfSome result (λ found. event_at self.now.events number ≡ Some found.1) }
         ensures number { IfSome result (λ found. found.1.number ≡ number) }
     {
-        match place_in(self.events.as_slice(), number) {
+        match place_of(self.events.as_slice(), number) {
             Some(place) => Some((place, self.events[place])),
             None => None,
         }
@@ -141,6 +136,34 @@ impl Events {
             timer: Timer::Stopped,
         });
         Ok(number)
+    }
+
+    /// What `create` would answer.
+    #[tactic(auto, unfolding(crate::specs::Calls::creation))]
+    pub fn creation(
+        &self,
+        kind: u32,
+        tpl: u64,
+        function: u64,
+        group: Option<Guid>,
+    ) -> Result<u64, EventRefusal>
+        ensures { result ≡ creation self.now kind tpl function group }
+    {
+        self.whole();
+        if !is_request(kind, tpl, function, group) {
+            return Err(EventRefusal::Invalid);
+        }
+        if self.count() == MOST || self.made() == MOST_MADE {
+            return Err(EventRefusal::Full);
+        }
+        Ok(16 * (self.made() + 1) + 8)
+    }
+
+    /// How many events were made.
+    fn made(&self) -> u64
+        ensures { result ≡ self.now.made }
+    {
+        self.made
     }
 
     /// Adds an event that is new.
@@ -188,13 +211,13 @@ impl Events {
     }
 
     /// Signals the event at a place, and those of its group.
-    fn signal_at(&mut self, place: usize, event: Event)
-        requires { slice_get self.old.events place ≡ Some event }
-        ensures { self.new ≡ signalled self.old event.number }
+    fn signal_at(&mut self, place: usize, first: Event)
+        requires { slice_get self.old.events place ≡ Some first }
+        ensures { self.new ≡ signalled self.old first.number }
     {
         self.whole();
-        self.raise(place, event);
-        if let Some(group) = event.group {
+        self.raise(place, first);
+        if let Some(group) = first.group {
             self.signal_group(&group);
         }
     }
@@ -213,6 +236,26 @@ impl Events {
                 Ok(())
             }
             None => Err(EventRefusal::Invalid),
+        }
+    }
+
+    /// Signals the event of a number, and those of its group. A number of no event changes nothing.
+    fn signal_known(&mut self, event: u64)
+        ensures { self.new ≡ signalled self.old event }
+    {
+        if let Some((place, found)) = self.find(event) {
+            self.signal_at(place, found);
+        }
+    }
+
+    /// Signals events, one after another, each as `signal` does. A number of no event changes nothing. It takes no
+    /// memory.
+    #[tactic(auto, unfolding(crate::specs::Queue::signal_each))]
+    pub fn signal_all(&mut self, events: &[u64])
+        ensures { self.new ≡ signal_each events.now self.old }
+    {
+        for event in events {
+            self.signal_known(*event);
         }
     }
 
@@ -253,18 +296,18 @@ impl Events {
     }
 
     /// Sets the timer of an event, as SetTimer does (UEFI 2.10, section 7.1). Kind 0 cancels, kind 1 is periodic and
-    /// kind 2 relative; both are due `time` units of 100 ns after `now`, at most at 2^64 - 1. `Invalid` is for what is
-    /// no event, an event without EVT_TIMER, and a kind above 2. It takes no memory.
+    /// kind 2 relative; both are due `time` units of 100 ns after `present`, at most at 2^64 - 1. `Invalid` is for what
+    /// is no event, an event without EVT_TIMER, and a kind above 2. It takes no memory.
     #[tactic(auto, unfolding(crate::specs::Calls::setting))]
     pub fn set_timer(
         &mut self,
         event: u64,
         kind: u32,
         time: u64,
-        now: u64,
+        present: u64,
     ) -> Result<(), EventRefusal>
         ensures answer { result ≡ setting self.old event kind }
-        ensures events { self.new ≡ after_setting result self.old event kind time now }
+        ensures events { self.new ≡ after_setting result self.old event kind time present }
     {
         let Some((place, found)) = self.find(event) else {
             return Err(EventRefusal::Invalid);
@@ -272,7 +315,7 @@ impl Events {
         if !is_timer(found.kind) || kind > 2 {
             return Err(EventRefusal::Invalid);
         }
-        self.set(place, found, Timer::of(kind, time, now));
+        self.set(place, found, Timer::of(kind, time, present));
         Ok(())
     }
 
@@ -296,7 +339,7 @@ impl Events {
         requires kind { is_signal event.kind ≡ false }
         ensures { self.new ≡ queue_one self.old event.number }
     {
-        if place_of(self.queue.as_slice(), event.number).is_none() {
+        if queued_at(self.queue.as_slice(), event.number).is_none() {
             self.queue.push_reserved(event.entry());
             self.top = self.top.max(event.tpl);
         }
@@ -352,81 +395,86 @@ impl Events {
     }
 
     /// Signals the event of each timer that is due, in order of making.
-    fn signal_due(&mut self, now: u64)
-        ensures { self.new ≡ signal_each (due_events now self.old.events) self.old }
+    fn signal_due(&mut self, present: u64)
+        ensures { self.new ≡ signal_each (due_events present self.old.events) self.old }
     {
         for place in 0..self.count() {
             let event = self.at(place);
-            if event.is_due(now) {
+            if event.is_due(present) {
                 self.signal_at(place, event);
             }
         }
     }
 
     /// Rewinds the timers that are due, at a tick.
-    fn rewind(&mut self, now: u64)
-        ensures { self.new ≡ all_rewound now self.old }
+    fn rewind(&mut self, present: u64)
+        requires { self.old.last_tick ≤ present }
+        ensures { self.new ≡ all_rewound present self.old }
     {
-        rewind_all(self.events.as_mut_slice(), now);
-        self.last_tick = now;
+        rewind_all(self.events.as_mut_slice(), present);
+        self.ticks.pass(present);
         self.due = least_due(self.events.as_slice());
-        self.ahead = moment_above(self.ticks.as_slice(), now);
     }
 
     /// A tick at which no timer is due.
-    fn pass(&mut self, now: u64)
-        ensures { self.new ≡ record self.old { last_tick = now } }
+    fn pass(&mut self, present: u64)
+        requires { self.old.last_tick ≤ present }
+        ensures { self.new ≡ record self.old { last_tick = present } }
     {
-        self.last_tick = now;
-        self.ahead = moment_above(self.ticks.as_slice(), now);
+        self.ticks.pass(present);
     }
 
     /// Whether a running timer is due at most at a moment.
-    fn has_due(&self, now: u64) -> bool
-        ensures { result ≡ is_up_to now (least_due self.now.events) }
+    fn has_due(&self, present: u64) -> bool
+        ensures { result ≡ is_up_to present (least_due self.now.events) }
     {
         match self.due {
-            Some(due) => due <= now,
+            Some(due) => due <= present,
             None => false,
         }
     }
 
-    /// Whether a tick moment lies above the last tick and at most at a moment.
+    /// Whether `tick` would make a tick: whether a tick moment lies above the last tick and at most at `present`.
     #[tactic(auto, unfolding(crate::specs::Timers::has_moment))]
-    fn has_moment(&self, now: u64) -> bool
-        ensures { result ≡ has_moment self.now now }
+    pub fn has_tick(&self, present: u64) -> bool
+        ensures { result ≡ has_moment self.now present }
     {
-        match self.ahead {
-            Some(ahead) => ahead <= now,
-            None => false,
-        }
+        self.ticks.has(present)
     }
 
     /// A tick at a moment.
-    fn make_tick(&mut self, now: u64)
-        ensures { self.new ≡ ticked self.old now }
+    fn make_tick(&mut self, present: u64)
+        requires { self.old.last_tick ≤ present }
+        ensures { self.new ≡ ticked self.old present }
     {
-        if self.has_due(now) {
-            self.signal_due(now);
-            self.rewind(now);
+        if self.has_due(present) {
+            self.signal_due(present);
+            self.rewind(present);
         } else {
-            self.pass(now);
+            self.pass(present);
         }
     }
 
-    /// A tick, where a tick moment lies above the last tick and at most at `now`; else false, and nothing changes. Each
-    /// running timer that is due at most at `now` signals its event, in order of making. A relative timer then stops,
-    /// and a periodic one is due its period after `now`. It takes no memory.
+    /// A tick, where a tick moment lies above the last tick and at most at `present`; else false, and nothing changes.
+    /// Each running timer that is due at most at `present` signals its event, in order of making. A relative timer then
+    /// stops, and a periodic one is due its period after `present`. It takes no memory.
     #[tactic(auto, unfolding(crate::specs::Timers::after_tick))]
-    pub fn tick(&mut self, now: u64) -> bool
-        ensures answer { result ≡ has_moment self.old now }
-        ensures events { self.new ≡ after_tick self.old now }
+    pub fn tick(&mut self, present: u64) -> bool
+        ensures answer { result ≡ has_moment self.old present }
+        ensures events { self.new ≡ after_tick self.old present }
     {
-        if !self.has_moment(now) {
+        if !self.has_tick(present) {
             return false;
         }
-        self.make_tick(now);
+        self.make_tick(present);
         true
+    }
+
+    /// Whether `next` would give a notification: whether one of a level above stands in the queue.
+    pub fn has_next(&self, tpl: u8) -> bool
+        ensures { result ≡ is_some (next_entry self.now.queue tpl) }
+    {
+        u64::from(tpl) < self.top
     }
 
     /// Takes the notification that comes next from the queue: the earliest of the greatest level, where that is above
@@ -434,7 +482,9 @@ impl Events {
     #[tactic(auto, unfolding(crate::specs::Queue::notified, crate::specs::Queue::after_next))]
     pub fn next(&mut self, tpl: u8) -> Option<Notify>
         ensures answer { result ≡ notified self.old.events (next_entry self.old.queue tpl) }
+        ensures below { IfSome result (λ notify. notify.tpl ≤ 30) }
         ensures events { self.new ≡ after_next self.old (next_entry self.old.queue tpl) }
+        ensures kept { IfNone result (self.new ≡ self.old) }
     {
         let Some((queued, entry)) = next_place(self.queue.as_slice(), self.top, u64::from(tpl))
         else {
@@ -457,17 +507,15 @@ impl Events {
         })
     }
 
-    /// The least tick moment above the last tick that is at least `now` and at which a timer is due. None exactly where
-    /// no timer runs or that moment is above 2^64 - 1.
+    /// The least tick moment above the last tick that is at least `present` and at which a timer is due. None exactly
+    /// where no timer runs or that moment is above 2^64 - 1.
     #[tactic(auto, unfolding(crate::specs::Timers::next_moment))]
-    pub fn next_moment(&self, now: u64) -> Option<u64>
-        ensures { result ≡ next_moment self.now now }
+    pub fn next_moment(&self, present: u64) -> Option<u64>
+        ensures { result ≡ next_moment self.now present }
     {
-        match (self.last_tick.checked_add(1), self.due) {
-            (Some(ahead), Some(due)) => {
-                first_moment(self.ticks.as_slice(), ahead.max(now.max(due)))
-            }
-            _ => None,
+        match self.due {
+            Some(due) => self.ticks.from(present.max(due)),
+            None => None,
         }
     }
 
@@ -485,6 +533,7 @@ impl Events {
     #[tactic(auto, unfolding(crate::specs::Queue::group_kept))]
     pub fn keep_group(&mut self, group: &Guid) -> Result<Vec<Notify>, AllocError>
         ensures answer { IfOk result (λ calls. calls.items ≡ kept_calls self.old.events group.now) }
+        ensures few { IfOk result (λ calls. length calls.items ≤ 256) }
         ensures ok { OnOk result (self.new ≡ group_kept self.old group.now) }
         ensures err { OnErr result (self.new ≡ self.old) }
     {

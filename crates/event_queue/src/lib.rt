@@ -17,7 +17,8 @@ pub use event::{Entry, Event, Notify};
 pub use events::Events;
 pub use kind::{EXIT_GROUP, VIRTUAL_GROUP};
 pub use laws::{
-    first_is_least, idle_ticks, next_is_greatest, next_moment_is_due, queued_once, ticks_at_moments,
+    first_is_least, idle_ticks, next_is_above, next_is_greatest, next_moment_is_due,
+    numbers_are_new, queued_once, signals_are_calls, ticks_at_moments, ticks_once,
 };
 pub use refusal::{Check, EventRefusal};
 pub use timer::Timer;

@@ -10,7 +10,7 @@ use std::alloc::{AllocError, Global};
 use uh_base::Guid;
 
 /// Where the notification of an event stands in the queue.
-pub fn place_of(queue: &[Entry], event: u64) -> Option<usize>
+pub fn queued_at(queue: &[Entry], event: u64) -> Option<usize>
     ensures { result ≡ position (is_entry event) queue.now }
 {
     queue.iter().position(|entry| entry.event == event)
@@ -22,7 +22,7 @@ pub fn unqueue(queue: &mut Vec<Entry>, event: u64)
     ensures items { queue.new.items ≡ filter (λ entry. not (is_entry event entry)) queue.old.items }
     ensures capacity { vec_capacity queue.new ≡ vec_capacity queue.old }
 {
-    if let Some(place) = place_of(queue.as_slice(), event) {
+    if let Some(place) = queued_at(queue.as_slice(), event) {
         queue.remove(place);
     }
 }

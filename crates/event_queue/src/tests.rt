@@ -46,8 +46,9 @@ enum Step {
     Next(u8, u64, u8),
     /// The moment that comes next.
     Moment(u64, Option<u64>),
-    /// The tests' group is signalled, and all timers stop.
+    /// The tests' group is signalled, a list of events is, and all timers stop.
     Group,
+    All([u64; 4]),
     Stop,
 }
 
@@ -70,7 +71,8 @@ fn goes(events: &mut Events, step: Step) -> bool {
             events.create(kind, tpl, FUNCTION, CONTEXT, Some(GROUP)) == Ok(number)
         }
         Step::Create(kind, tpl, function, group, wanted) => {
-            events.create(kind, tpl, function, CONTEXT, group) == wanted
+            events.creation(kind, tpl, function, group) == wanted
+                && events.create(kind, tpl, function, CONTEXT, group) == wanted
         }
         Step::Signal(event, is_ok) => events.signal(event).is_ok() == is_ok,
         Step::Close(event, is_ok) => events.close(event).is_ok() == is_ok,
@@ -80,12 +82,20 @@ fn goes(events: &mut Events, step: Step) -> bool {
         Step::Timer(event, kind, time, now, is_ok) => {
             events.set_timer(event, kind, time, now).is_ok() == is_ok
         }
-        Step::Tick(now, is_tick) => events.tick(now) == is_tick,
-        Step::Nothing(tpl) => events.next(tpl).is_none(),
-        Step::Next(tpl, event, at) => events.next(tpl) == Some(notify(event, at)),
+        Step::Tick(now, is_tick) => {
+            events.has_tick(now) == is_tick && events.tick(now) == is_tick
+        }
+        Step::Nothing(tpl) => !events.has_next(tpl) && events.next(tpl).is_none(),
+        Step::Next(tpl, event, at) => {
+            events.has_next(tpl) && events.next(tpl) == Some(notify(event, at))
+        }
         Step::Moment(now, wanted) => events.next_moment(now) == wanted,
         Step::Group => {
             events.signal_group(&GROUP);
+            true
+        }
+        Step::All(numbers) => {
+            events.signal_all(&numbers);
             true
         }
         Step::Stop => {
@@ -124,6 +134,12 @@ fn notifications_by_level_and_then_by_signals(rt: HostRuntime) -> Result<(), Fai
         Step::Signal(24, true),
         Step::Next(0, 56, 8),
         Step::Next(7, 24, 8),
+        Step::Nothing(0),
+        // A number of no event changes nothing.
+        Step::All([56, 72, 40, 24]),
+        Step::Next(4, 40, 16),
+        Step::Next(4, 56, 8),
+        Step::Next(4, 24, 8),
         Step::Nothing(0),
     ];
     assert_eq!(rt; first_wrong(&mut events, &steps), None);
@@ -353,7 +369,8 @@ fn timers_at_tick_moments(rt: HostRuntime) -> Result<(), Fail> {
 
 #[test]
 fn periods_of_nothing_and_timers_that_stop(rt: HostRuntime) -> Result<(), Fail> {
-    let mut events = Events::new(rt.alloc(), Vec::from_array(rt.alloc(), [3, 5])?)?;
+    // Listed moments may come in any order.
+    let mut events = Events::new(rt.alloc(), Vec::from_array(rt.alloc(), [5, 3])?)?;
     let steps = [
         Step::Make(0x8000_0000, 0, 24),
         Step::Make(0x8000_0000, 0, 40),

@@ -19,7 +19,6 @@ invariant_of-self c =
       c.self.invariant.2,
       c.self.invariant.3,
       c.self.invariant.4 ∙ sym (ap least_due c.push_reserved.ensures.items ∙ due_push c.self.inside.events.items c.args.event c.requires.timer),
-      c.self.invariant.5,
     )
 
 pub returns : goal.returns

@@ -1,6 +1,8 @@
-use Rattle.std.proofs.Common.{arith}
-use Rattle.event_queue.specs.Queue.{is_kept}
+use Rattle.std.proofs.Common.{◌∙◌, List, length, ap, arith}
+use Rattle.event_queue.specs.declared.event.Event.{Event}
+use Rattle.event_queue.specs.Queue.{is_kept, kept_calls}
 use Rattle.event_queue.proofs.Caches.{nothing_queued}
+use Rattle.event_queue.proofs.CallLemmas.{few_kept}
 use Rattle.event_queue.proofs.Wholes.{kept_whole}
 use Rattle.event_queue.proofs.events.Events.keep_group.Goals as goal
 
@@ -15,5 +17,10 @@ invariant_of-self c =
       omega (arith, l, n),
       rw c.clear.ensures.items nothing_queued,
       (cc),
-      c.self.invariant.5,
     )
+
+pub returns-clause-few : goal.returns-clause-few
+returns-clause-few c =
+    let few = few_kept _ c.args.group.now c.self.invariant.0 in
+    let long = ap length c.in_ok-calls.ensures ∙ ap (λ (es : List Event). length (kept_calls es c.args.group.now)) c.as_slice.ensures.value in
+    omega (arith, few, long)

@@ -10,7 +10,7 @@ index_mut-requires c = let k = get_below c.args.place c.self.inside.events.items
 
 pub invariant_of-self : goal.invariant_of-self
 invariant_of-self c =
-    (lower_whole _ c.args.place c.args.event c.self.invariant.0 (ap (λ (s : EventList). slice_get s.events c.args.place) c.self.view_is ∙ c.requires.event) c.requires.kind, c.self.invariant.1, c.self.invariant.2, c.self.invariant.3, c.self.invariant.4 ∙ sym (due_set c.args.place c.self.inside.events.items c.args.event (lowered c.args.event) (ap (λ (s : EventList). slice_get s.events c.args.place) c.self.view_is ∙ c.requires.event) refl), c.self.invariant.5)
+    (lower_whole _ c.args.place c.args.event c.self.invariant.0 (ap (λ (s : EventList). slice_get s.events c.args.place) c.self.view_is ∙ c.requires.event) c.requires.kind, c.self.invariant.1, c.self.invariant.2, c.self.invariant.3, c.self.invariant.4 ∙ sym (due_set c.args.place c.self.inside.events.items c.args.event (lowered c.args.event) (ap (λ (s : EventList). slice_get s.events c.args.place) c.self.view_is ∙ c.requires.event) refl))
 
 pub returns : goal.returns
 returns c =

@@ -1,5 +1,4 @@
-use Rattle.std.proofs.Common.{◌∙◌, ap, arith, ℕ, List}
-use Rattle.event_queue.specs.Timers.{reached, first_moment}
+use Rattle.std.proofs.Common.{arith}
 use Rattle.event_queue.proofs.Wholes.{nothing_whole}
 use Rattle.event_queue.proofs.Caches.{nothing_queued, nothing_due}
 use Rattle.event_queue.proofs.events.Events.new.Goals as goal
@@ -10,10 +9,9 @@ invariant_of-result c =
     let q = c.in_ok-with_capacity-2.ensures.items in
     let m = c.in_ok-with_capacity.ensures.capacity in
     let n = c.in_ok-with_capacity-2.ensures.capacity in (
-      rw (e, q) (nothing_whole c.args.ticks.items),
+      rw (e, q, c.new.ensures) (nothing_whole c.args.ticks.items),
       omega (arith, m),
       omega (arith, n),
       rw q nothing_queued,
       rw e nothing_due,
-      c.moment_above-ahead.ensures ∙ ap (λ (ts : List ℕ). reached (first_moment ts 1)) c.as_slice.ensures.value,
     )

@@ -40,7 +40,6 @@ invariant_of-self c =
       omega (arith, k, l),
       (cc),
       c.self.invariant.4 ∙ sym (due_set c.in-Some-find.place c.self.inside.events.items c.in-Some-find.event (lowered c.in-Some-find.event) here refl),
-      c.self.invariant.5,
     )
 
 pub returns-clause-events : goal.returns-clause-events
@@ -49,3 +48,9 @@ returns-clause-events c =
     let here = ap (λ (s : EventList). slice_get s.events c.in-Some-find.place) c.self.view_is ∙ c.in-Some-find.ensures.some in
     rw c.remove.ensures.items (next_is _ c.in-Some-find.place c.in-Some.queued c.in-Some-find.event c.in-Some.entry c.self.invariant.0 here queued c.in-Some-find.ensures.number
     ∙ some_next _ c.args.self.now c.as_slice.result.now c.args.tpl c.in-Some.entry c.self.view_is c.as_slice.ensures.value (ap (next_entry c.as_slice.result.now) (sym c.from.ensures) ∙ c.in-Some.ensures.some))
+
+pub returns-clause-below : goal.returns-clause-below
+returns-clause-below c =
+    let queued = ap (λ q. slice_get q c.in-Some.queued) (sym c.as_slice.ensures.value) ∙ c.in-Some.ensures.here in
+    let k = entry_level _ c.in-Some.queued c.in-Some.entry c.self.invariant.0 queued in
+    omega (arith, k.1)

@@ -29,13 +29,12 @@ invariant_of-self c =
       omega (arith, k, l),
       top_pushed c.self.inside.queue.items _ c.entry.result c.self.inside.top c.max-self-inside.result c.push_reserved.ensures.items c.self.invariant.3 (c.max-self-inside.ensures ∙ ap (λ (x : Entry). max c.self.inside.top x.tpl) (sym c.entry.ensures)),
       c.self.invariant.4 ∙ sym (due_set c.args.place c.self.inside.events.items c.args.event (raised c.args.event) here refl),
-      c.self.invariant.5,
     )
 
 pub invariant_of-self-else-is_signal : goal.invariant_of-self-else-is_signal
 invariant_of-self-else-is_signal c =
     let here = ap (λ (s : EventList). slice_get s.events c.args.place) c.self.view_is ∙ c.requires in
-    (raise_set_whole _ c.args.place c.args.event c.self.invariant.0 here, c.self.invariant.1, c.self.invariant.2, c.self.invariant.3, c.self.invariant.4 ∙ sym (due_set c.args.place c.self.inside.events.items c.args.event (raised c.args.event) here refl), c.self.invariant.5)
+    (raise_set_whole _ c.args.place c.args.event c.self.invariant.0 here, c.self.invariant.1, c.self.invariant.2, c.self.invariant.3, c.self.invariant.4 ∙ sym (due_set c.args.place c.self.inside.events.items c.args.event (raised c.args.event) here refl))
 
 pub returns-then-is_signal : goal.returns-then-is_signal
 returns-then-is_signal c =

@@ -22,7 +22,6 @@ invariant_of-self c =
       omega (arith, l, n),
       (cc),
       (cc),
-      c.self.invariant.5,
     )
 
 pub returns : goal.returns

@@ -9,10 +9,9 @@ invariant_of-self c =
     let long = c.rewind_all.auto.events in
     let same = ap length value in
     let back = written_back c.self.inside.events.len c.rewind_all.new.events c.self.inside.events.items (omega (arith)) (omega (arith, long, same)) in (
-      rw (back, is, value) (rewound_whole _ c.args.now c.self.invariant.0),
+      rw (back, is, value, c.pass.ensures) (rewound_whole _ c.args.present c.self.invariant.0),
       c.self.invariant.1,
       c.self.invariant.2,
       c.self.invariant.3,
-      (cc),
       (cc),
     )

@@ -10,7 +10,7 @@ index_mut-requires c = let k = get_below c.args.place c.self.inside.events.items
 
 pub invariant_of-self : goal.invariant_of-self
 invariant_of-self c =
-    (timer_whole _ c.args.place c.args.event c.args.timer c.self.invariant.0 (ap (λ (s : EventList). slice_get s.events c.args.place) c.self.view_is ∙ c.requires), c.self.invariant.1, c.self.invariant.2, c.self.invariant.3, (cc), c.self.invariant.5)
+    (timer_whole _ c.args.place c.args.event c.args.timer c.self.invariant.0 (ap (λ (s : EventList). slice_get s.events c.args.place) c.self.view_is ∙ c.requires), c.self.invariant.1, c.self.invariant.2, c.self.invariant.3, (cc))
 
 pub returns : goal.returns
 returns c =

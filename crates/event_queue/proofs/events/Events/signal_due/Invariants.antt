@@ -5,6 +5,6 @@ use Rattle.event_queue.proofs.events.Events.signal_due.Given as goal
 
 abbrev pub invariant-loop-place : goal.invariant-loop-place
 invariant-loop-place l = record {
-  rest : signal_each (due_events l.now (drop l.place l.self.events)) l.self ≡ signal_each (due_events l.now l.fn.self.events) l.fn.self;
+  rest : signal_each (due_events l.present (drop l.place l.self.events)) l.self ≡ signal_each (due_events l.present l.fn.self.events) l.fn.self;
   long : length l.self.events ≡ length l.fn.self.events;
 }

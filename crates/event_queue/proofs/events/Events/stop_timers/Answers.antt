@@ -15,5 +15,4 @@ invariant_of-self c =
       c.self.invariant.2,
       c.self.invariant.3,
       rw (back, is, value) (sym (due_stopped c.self.inside.events.items)),
-      c.self.invariant.5,
     )
