@@ -41,11 +41,11 @@ unfolding format_of
 format_is op r g = sym (ap format_in (in_table (place_of op) r g))
 
 -- a name's row has 32 bits, excludes nothing, and has its format's mask
-abbrev is_long : Option Row → Bool
+abbrev pub is_long : Option Row → Bool
 is_long None = false
 is_long (Some row) = row.length == 4 && is_shaped row.format row.is.mask row.is.value
 
-abbrev names : Option Row → Option Op
+abbrev pub names : Option Row → Option Op
 names None = None
 names (Some row) = Some row.op
 
@@ -53,12 +53,12 @@ abbrev excludes : Option Row → List Pattern
 excludes None = []
 excludes (Some row) = row.but
 
-long : (op : Op) → is_long (slice_get rows (place_of op)) ≡ true
+pub long : (op : Op) → is_long (slice_get rows (place_of op)) ≡ true
 unfolding rows
 long ops.Lui = refl
 long op = refl
 
-named : (op : Op) → names (slice_get rows (place_of op)) ≡ Some op
+pub named : (op : Op) → names (slice_get rows (place_of op)) ≡ Some op
 unfolding rows
 named ops.Lui = refl
 named op = refl
@@ -159,23 +159,23 @@ ranged formats.Fence op mask v w s = refl
 ranged formats.Whole op mask v w s = refl
 ranged format op mask v w s = cc
 
-op_of : (format : Format) (op : Op) (w : ℕ) → (reads_of format op w).op ≡ op
+pub op_of : (format : Format) (op : Op) (w : ℕ) → (reads_of format op w).op ≡ op
 op_of formats.R op w = refl
 op_of format op w = refl
 
 -- each row of 32 bits stands at its name's number and has its format's mask
-abbrev is_placed : ℕ → Row → Bool
+abbrev pub is_placed : ℕ → Row → Bool
 is_placed i row = if row.length == 4 then place_of row.op == i && is_shaped row.format row.is.mask row.is.value else true
 
-abbrev are_placed : ℕ → List Row → Bool
+abbrev pub are_placed : ℕ → List Row → Bool
 are_placed i [] = true
 are_placed i (row ∷ more) = is_placed i row && are_placed (i + 1) more
 
-are-placed : are_placed 0 rows ≡ true
+pub are-placed : are_placed 0 rows ≡ true
 unfolding rows
 are-placed = refl
 
-placed_at : (i k at : ℕ) (rs : List Row) (row : Row) → at ≡ i + k → are_placed i rs ≡ true → slice_get rs k ≡ Some row → is_placed at row ≡ true
+pub placed_at : (i k at : ℕ) (rs : List Row) (row : Row) → at ≡ i + k → are_placed i rs ≡ true → slice_get rs k ≡ Some row → is_placed at row ≡ true
 placed_at i k at [] row e h g = cc
 placed_at i zero at (q ∷ rs) row e h g =
     let same : at ≡ i = omega arith in
@@ -183,7 +183,7 @@ placed_at i zero at (q ∷ rs) row e h g =
     let parts = and_split (is_placed i q) _ h in ap (λ j. is_placed j row) same ∙ ap (is_placed i) (sym is) ∙ parts.0
 placed_at i (suc k) at (q ∷ rs) row e h g = let parts = and_split (is_placed i q) _ h in placed_at (i + 1) k at rs row (omega arith) parts.1 g
 
-placed_parts : (i : ℕ) (row : Row) → is_placed i row ≡ true → row.length ≡ 4 → (place_of row.op ≡ i) × (is_shaped row.format row.is.mask row.is.value ≡ true)
+pub placed_parts : (i : ℕ) (row : Row) → is_placed i row ≡ true → row.length ≡ 4 → (place_of row.op ≡ i) × (is_shaped row.format row.is.mask row.is.value ≡ true)
 placed_parts i row h e =
     let four : (row.length == 4) ≡ true = rw e refl in
     let h2 : (place_of row.op == i && is_shaped row.format row.is.mask row.is.value) ≡ true = rw four at h in

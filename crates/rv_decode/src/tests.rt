@@ -309,6 +309,21 @@ fn fence_ignores_its_fields(rt: HostRuntime) {
 }
 
 #[test]
+fn words_are_remembered_at_their_places(rt: HostRuntime) -> Result<(), Fail> {
+    let mut known = KnownWords::new(rt.alloc())?;
+    let (word, half) = (decode(0x8503, 0x800b), decode(0x0505, 0));
+    assert_eq!(rt; known.learn(0x4000_0000, 0x8503, 0x800b), word);
+    assert_eq!(rt; known.learn(0x4000_2000, 0x0505, 0), half);
+    assert_eq!(rt; known.recall(0x4000_0000, 0x8503, 0x800b), word);
+    assert_eq!(rt; known.recall(0x4000_2000, 0x0505, 0xffff), half);
+    // Another word at a place, and a reserved one, aren't known there.
+    assert_eq!(rt; known.recall(0x4000_0000, 0x8503, 0x800c), None);
+    assert_eq!(rt; known.learn(0x4000_0000, 0, 0), None);
+    assert_eq!(rt; known.recall(0x4000_0000, 0x8503, 0x800b), word);
+    Ok(())
+}
+
+#[test]
 fn out_of_range_does_not_fit(rt: HostRuntime) {
     let addi = Insn {
         op: Op::Addi,

@@ -1,16 +1,17 @@
 -- What is asked stays within 64 bits.
-use Rattle.std.proofs.Common.{ℕ, zero, suc, ◌-◌, ◌*◌, ◌/◌, ◌%◌, ◌^◌, ◌<◌, ◌≤◌, ℤ, pos, arith, Bool, true, false}
+use Rattle.std.proofs.Common.{ℕ, zero, suc, ◌-◌, ◌*◌, ◌/◌, ◌%◌, ◌^◌, ◌<◌, ◌≤◌, ℤ, pos, arith, refl, Bool, true, false}
 use Rattle.std.proofs.Math.Facts.{sfits_to_z}
 use Rattle.std.proofs.Math.Nat.{mod-le, div-le_self}
 use Rattle.std.specs.Prelude.{◌==◌, FitsSigned, int_rem, int_div, unsigned_abs, negsuc, if◌then◌else◌, ◌*ℤ◌, neg_ℤ}
-use Rattle.std.specs.Int.{w32, w64, w128, int_shr}
+use Rattle.std.specs.Int.{w32, w128, int_shr}
 use Rattle.std.proofs.lemmas.Int.{fits_signed_mul}
 use Rattle.std.proofs.lemmas.Nat.{shr_le, shr_below, xor_lt, or_lt, and_le_l, mul-lt}
 use Rattle.rv_decode.specs.declared.insn.Op.{Op}
 use Rattle.rv_decode.specs.declared.insn.Op.TheVariants as ops
 use Rattle.rv_step.specs.Values.{signed, signed32, bits_of, extended, of_bool, plus, shifted, high, quotient, remainder, overflows, quotient_signed, remainder_signed}
 use Rattle.rv_step.specs.Asks.{asks, asks_as, branch}
-use Rattle.rv_step.specs.Numbers.{IsNumber, AsksFit}
+use Rattle.rv_step.specs.Exec.{IsFit}
+use Rattle.rv_step.specs.Numbers.{AsksAreFit, AsksFit, BitsFit, IsNumber}
 use Rattle.rv_step.proofs.Signed.{high_fits, below}
 
 -- at most 2^63 to either side
@@ -155,9 +156,37 @@ number ops.Fence rd a b i pc next ha hb hi hp hn = omega arith
 number ops.Ecall rd a b i pc next ha hb hi hp hn = tt
 number ops.Ebreak rd a b i pc next ha hb hi hp hn = tt
 
-imm_lt : (z : ℤ) → FitsSigned w64 z → bits_of z < 2 ^ 64
+pub imm_lt : BitsFit
 imm_lt z f = bits_lt z (record { size = below z f })
 
 pub fit : AsksFit
 unfolding asks
 fit insn len x pc f xs h = number insn.op insn.rd _ _ _ pc (plus pc len) (xs insn.rs1) (xs insn.rs2) (imm_lt insn.imm f) h (omega arith)
+
+-- each name asks for registers and widths that there are
+fit_as : (op : Op) (rd a b i pc next : ℕ) → rd < 32 → IsFit (asks_as op rd a b i pc next)
+fit_as ops.Lb rd a b i pc next h = (h, refl)
+fit_as ops.Lh rd a b i pc next h = (h, refl)
+fit_as ops.Lw rd a b i pc next h = (h, refl)
+fit_as ops.Ld rd a b i pc next h = (h, refl)
+fit_as ops.Lbu rd a b i pc next h = (h, refl)
+fit_as ops.Lhu rd a b i pc next h = (h, refl)
+fit_as ops.Lwu rd a b i pc next h = (h, refl)
+fit_as ops.Sb rd a b i pc next h = refl
+fit_as ops.Sh rd a b i pc next h = refl
+fit_as ops.Sw rd a b i pc next h = refl
+fit_as ops.Sd rd a b i pc next h = refl
+fit_as ops.Beq rd a b i pc next h = omega arith
+fit_as ops.Bne rd a b i pc next h = omega arith
+fit_as ops.Blt rd a b i pc next h = omega arith
+fit_as ops.Bge rd a b i pc next h = omega arith
+fit_as ops.Bltu rd a b i pc next h = omega arith
+fit_as ops.Bgeu rd a b i pc next h = omega arith
+fit_as ops.Fence rd a b i pc next h = omega arith
+fit_as ops.Ecall rd a b i pc next h = tt
+fit_as ops.Ebreak rd a b i pc next h = tt
+fit_as op rd a b i pc next h = h
+
+pub are_fit : AsksAreFit
+unfolding asks
+are_fit insn len x pc h = fit_as insn.op insn.rd _ _ _ pc (plus pc len) h.rd

@@ -17,6 +17,16 @@ even n = n - n % 2
 abbrev pub branch : Bool → (next target : ℕ) → Ask
 branch taken next target = Jump (if taken then target else next) 0
 
+-- what a conditional branch compares two registers for; other instructions compare none (2.5)
+abbrev pub compares : Op → (a b : ℕ) → Bool
+compares ops.Beq a b = a == b
+compares ops.Bne a b = not (a == b)
+compares ops.Blt a b = int_lt (signed a) (signed b)
+compares ops.Bge a b = not (int_lt (signed a) (signed b))
+compares ops.Bltu a b = nat_lt a b
+compares ops.Bgeu a b = not (nat_lt a b)
+compares op a b = false
+
 -- An instruction whose destination is rd, whose source registers rs1 and rs2 hold a and b, whose immediate has the 64
 -- bits i, which is at pc, and behind which is the address `next`.
 abbrev pub asks_as : Op → (rd a b i pc next : ℕ) → Ask
@@ -27,12 +37,12 @@ asks_as ops.Auipc rd a b i pc next = Set rd (plus pc i)
 asks_as ops.Jal rd a b i pc next = Jump (plus pc i) rd
 asks_as ops.Jalr rd a b i pc next = Jump (even (plus a i)) rd
 -- Conditional branches (2.5)
-asks_as ops.Beq rd a b i pc next = branch (a == b) next (plus pc i)
-asks_as ops.Bne rd a b i pc next = branch (not (a == b)) next (plus pc i)
-asks_as ops.Blt rd a b i pc next = branch (int_lt (signed a) (signed b)) next (plus pc i)
-asks_as ops.Bge rd a b i pc next = branch (not (int_lt (signed a) (signed b))) next (plus pc i)
-asks_as ops.Bltu rd a b i pc next = branch (nat_lt a b) next (plus pc i)
-asks_as ops.Bgeu rd a b i pc next = branch (not (nat_lt a b)) next (plus pc i)
+asks_as ops.Beq rd a b i pc next = branch (compares ops.Beq a b) next (plus pc i)
+asks_as ops.Bne rd a b i pc next = branch (compares ops.Bne a b) next (plus pc i)
+asks_as ops.Blt rd a b i pc next = branch (compares ops.Blt a b) next (plus pc i)
+asks_as ops.Bge rd a b i pc next = branch (compares ops.Bge a b) next (plus pc i)
+asks_as ops.Bltu rd a b i pc next = branch (compares ops.Bltu a b) next (plus pc i)
+asks_as ops.Bgeu rd a b i pc next = branch (compares ops.Bgeu a b) next (plus pc i)
 -- Loads: LB, LH and LW are sign-extended, LBU, LHU and LWU are not (2.6 and 5.3)
 asks_as ops.Lb rd a b i pc next = Load rd (plus a i) 1 true
 asks_as ops.Lh rd a b i pc next = Load rd (plus a i) 2 true

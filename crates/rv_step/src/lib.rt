@@ -15,6 +15,6 @@ mod values;
 pub use ask::{Ask, asked};
 pub use bus::{Access, Bus, BusEnd};
 pub use ends::{StepEnd, Trap};
-pub use hart::step;
+pub use hart::{step, step_known};
 pub use laws::{asks_fit, division_holds, other_bytes_stay, stored_is_loaded, stores_its_bytes};
 pub use regs::Regs;

@@ -5,7 +5,8 @@
 ghost use Rattle.std.specs.Prelude.{true};
 
 use super::*;
-use rv_decode::decode;
+use rv_decode::{KnownWords, decode};
+use std::test::Fail;
 
 /// A word that writes a0 from a1 and a2, what these hold, and what a0 then holds.
 static VALUES: [(u32, u64, u64, u64); 92] = [
@@ -320,17 +321,25 @@ impl Bus for Constant {
     }
 }
 
-/// The word 0x83838383 is `lb t2, -1992(t2)`.
+/// The word 0x83838383 is `lb t2, -1992(t2)`. It is read anew at first, and then remembered.
 #[test]
-fn a_step_fetches_decodes_and_loads(rt: HostRuntime) {
-    let mut regs = Regs {
-        x: [0; 32],
-        pc: 0xfffffffffffffffe,
-    };
-    let end = step(&mut regs, &mut Constant);
-    assert_eq!(rt; end, StepEnd::Next);
-    assert_eq!(rt; regs.pc, 2);
-    let (loaded, zero) = (regs.x[7], regs.x[0]);
-    assert_eq!(rt; loaded, 0xffffffffffffff83);
-    assert_eq!(rt; zero, 0);
+fn a_step_fetches_decodes_and_loads(rt: HostRuntime) -> Result<(), Fail> {
+    let mut known = KnownWords::new(rt.alloc())?;
+    for way in 0..3 {
+        let mut regs = Regs {
+            x: [0; 32],
+            pc: 0xfffffffffffffffe,
+        };
+        let end = if way == 0 {
+            step(&mut regs, &mut Constant)
+        } else {
+            step_known(&mut known, &mut regs, &mut Constant)
+        };
+        assert_eq!(rt; end, StepEnd::Next);
+        assert_eq!(rt; regs.pc, 2);
+        let (loaded, zero) = (regs.x[7], regs.x[0]);
+        assert_eq!(rt; loaded, 0xffffffffffffff83);
+        assert_eq!(rt; zero, 0);
+    }
+    Ok(())
 }
