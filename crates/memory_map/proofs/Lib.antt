@@ -1,3 +1,4 @@
+pub mod RunLemmas
 pub mod MapLemmas
 pub mod StretchLemmas
 pub mod WriteLemmas

@@ -1,15 +1,14 @@
 -- Runs of one type.
-use Rattle.std.proofs.Common.{◌≡◌, ◌≢◌, ℕ, zero, suc, ◌+◌, ◌-◌, ◌*◌, ◌<◌, ◌≤◌, List, [], ◌∷◌, ◌++◌, length, replicate, drop, get_or, refl, sym, ap, ◌∙◌, arith, length-append, length-drop, subst, inl, inr, take, add-zero, true, false}
-use Rattle.std.specs.Prelude.{◌&&◌, nat_le, nat_lt, Some}
+use Rattle.std.proofs.Common.{◌≡◌, ◌≢◌, ℕ, zero, suc, ◌+◌, ◌-◌, ◌*◌, ◌<◌, ◌≤◌, List, [], ◌∷◌, ◌++◌, length, replicate, drop, get_or, refl, sym, ap, ◌∙◌, arith, length-append, length-drop, subst, inl, inr, take, add-zero, Bool, true, false}
+use Rattle.std.specs.Prelude.{◌==◌, ◌&&◌, nat_le, nat_lt, Some}
 use Rattle.memory_map.specs.declared.descriptor.Descriptor.{Descriptor}
 use Rattle.std.proofs.lemmas.Bool.Decides.{leb_tells, nat_tests}
 use Rattle.std.proofs.lemmas.List.{append_assoc, length-replicate, length-map, map-append, replicate-append-replicate, drop-drop, take_rest, get_or-drop, get_or_default}
 use Rattle.page_alloc.specs.declared.page.Page.{Page}
 use Rattle.page_alloc.specs.declared.runs.Run.{Run}
 use Rattle.page_alloc.specs.Runs.{all_pages, NoneEmpty}
-use Rattle.page_alloc.proofs.RunLemmas.{pages_from, pages_end, not_empty}
+use Rattle.memory_map.proofs.RunLemmas.{pages_from, pages_end, not_empty, none_drop}
 use Rattle.page_alloc.specs.declared.page.Owner.TheVariants.{Free}
-use Rattle.page_alloc.proofs.EditLemmas.{none_drop, parts}
 use Rattle.memory_map.specs.Map.{types_of, map_from, described, descriptor_of}
 use Rattle.memory_map.proofs.MapLemmas.{OtherType, map_first, map_none}
 
@@ -73,100 +72,54 @@ other_behind s count t d all differ = elim (leb_tells (length s) count) [
       (other_replicate t (get_or s count d).page.memory_type (get_or s count d).count (types_of (all_pages (drop (count + 1) s))) (not_empty s count d all l) (differ l)))
 ]
 
--- where a walk over the runs stands
-pub record Walk (runs : List Run) (base at next : ℕ) : Type 0 where
-  pub below : next ≤ length runs
-  pub ends : at + 4096 * length (all_pages (drop next runs)) ≡ base + 4096 * length (all_pages runs)
+-- the runs behind a stretch, as a slice of all of them
+abbrev pub behind : List Run → ℕ → List Run
+behind runs count = take (length runs - count) (drop count runs)
 
--- a stretch of the runs that are left
-pub record Step (runs s : List Run) (next count pages t : ℕ) : Type 0 where
-  pub left : s ≡ drop next runs
-  pub below : count ≤ length s
-  pub types : types_of (all_pages s) ≡ replicate pages t ++ types_of (all_pages (drop count s))
-  pub some : 0 < pages
-  pub differ : (d : Run) → count < length s → t ≢ (get_or s count d).page.memory_type
+-- what a stretch at the front of the runs is in the map
+pub record Next (runs : List Run) (at count pages t : ℕ) : Type 0 where
+  pub first : map_from at (types_of (all_pages runs)) ≡ described at t pages ∷ map_from (at + 4096 * pages) (types_of (all_pages (behind runs count)))
+  pub sizes : length (all_pages runs) ≡ pages + length (all_pages (behind runs count))
+  pub none_empty : NoneEmpty (behind runs count)
 
-pub begin : (runs : List Run) (base : ℕ) → Walk runs base base 0
-begin runs base = record { below = omega arith; ends = refl }
+module _ (runs : List Run) (count pages : ℕ) (all : NoneEmpty runs) (some : 0 < pages)
+    (types : (d : Run) → types_of (all_pages runs) ≡ replicate pages (get_or runs 0 d).page.memory_type ++ types_of (all_pages (drop count runs)))
+    (differ : (d : Run) → count < length runs → (get_or runs 0 d).page.memory_type ≢ (get_or runs count d).page.memory_type) where
+  split : (d : Run) → types_of (all_pages runs) ≡ replicate pages (get_or runs 0 d).page.memory_type ++ types_of (all_pages (behind runs count))
+  split d = types d ∙ ap (λ rs. replicate pages (get_or runs 0 d).page.memory_type ++ types_of (all_pages rs)) (sym (take_rest runs count))
 
-module _ (runs s : List Run) (base at next count pages t : ℕ) (all : NoneEmpty runs) (walk : Walk runs base at next) (step : Step runs s next count pages t) where
-  behind : drop count s ≡ drop (next + count) runs
-  behind = ap (λ rs. drop count rs) step.left ∙ drop-drop count next runs
+  pub next_is : (at : ℕ) (d : Run) → Next runs at count pages (get_or runs 0 d).page.memory_type
+  next_is at d =
+      let t = (get_or runs 0 d).page.memory_type in
+      let other : OtherType (get_or runs 0 d).page.memory_type (types_of (all_pages (behind runs count)))
+      = subst (λ rs. OtherType (get_or runs 0 d).page.memory_type (types_of (all_pages rs))) (sym (take_rest runs count)) (other_behind runs count (get_or runs 0 d).page.memory_type d all (differ d)) in
+      let l = ap length (split d) in
+      record {
+        first = ap (λ ts. map_from at ts) (split d) ∙ map_first at (get_or runs 0 d).page.memory_type pages (types_of (all_pages (behind runs count))) some other;
+        sizes = omega (
+          arith,
+          l,
+          length-map (all_pages runs) (λ (page : Page). page.memory_type),
+          length-map (all_pages (behind runs count)) (λ (page : Page). page.memory_type),
+          length-append (replicate pages (get_or runs 0 d).page.memory_type) (types_of (all_pages (behind runs count))),
+          length-replicate pages (get_or runs 0 d).page.memory_type,
+        );
+        none_empty = subst NoneEmpty (sym (take_rest runs count)) (none_drop count runs all);
+      }
 
-  split : types_of (all_pages (drop next runs)) ≡ replicate pages t ++ types_of (all_pages (drop (next + count) runs))
-  split = ap (λ rs. types_of (all_pages rs)) (sym step.left) ∙ step.types ∙ ap (λ rs. replicate pages t ++ types_of (all_pages rs)) behind
+pub none_next : (runs : List Run) (at : ℕ) (b : Bool) → b ≡ (length runs == 0) → b ≡ true → map_from at (types_of (all_pages runs)) ≡ []
+unfolding all_pages
+none_next [] at b e h = map_none at
+none_next (run ∷ runs) at b e h = absurd (let q : (length (run ∷ runs) == 0) ≡ true = sym e ∙ h in let none : length (run ∷ runs) ≡ 0 = grind (arith, nat_tests) in omega (arith, none))
 
-  sizes : length (all_pages (drop next runs)) ≡ pages + length (all_pages (drop (next + count) runs))
-  sizes =
-      let l = ap length split in
-      omega (
-        arith,
-        l,
-        length-map (all_pages (drop next runs)) (λ (page : Page). page.memory_type),
-        length-map (all_pages (drop (next + count) runs)) (λ (page : Page). page.memory_type),
-        length-append (replicate pages t) (types_of (all_pages (drop (next + count) runs))),
-        length-replicate pages t,
-      )
+pub some_next : (runs : List Run) (b : Bool) → b ≡ (length runs == 0) → b ≡ false → 0 < length runs
+some_next [] b e h = absurd (let q : true ≡ false = sym e ∙ h in cc)
+some_next (run ∷ runs) b e h = omega arith
 
-  pub walk_on : Walk runs base (at + 4096 * pages) (next + count)
-  walk_on =
-      let below = walk.below in
-      let more = step.below in
-      let ends = walk.ends in
-      let l = ap length step.left in
-      record { below = omega (arith, l, length-drop next runs); ends = omega (arith, sizes, ends) }
-
-  pub walk_fits : at + 4096 * pages ≤ base + 4096 * length (all_pages runs)
-  walk_fits = let ends = walk.ends in omega (arith, sizes, ends)
-
-  pub map_step : map_from at (types_of (all_pages (drop next runs))) ≡ described at t pages ∷ map_from (at + 4096 * pages) (types_of (all_pages (drop (next + count) runs)))
-  map_step =
-      let none : NoneEmpty s = subst NoneEmpty (sym step.left) (none_drop next runs all) in
-      let other : OtherType t (types_of (all_pages (drop (next + count) runs))) = subst (λ rs. OtherType t (types_of (all_pages rs))) behind (other_behind s count t blank none (step.differ blank)) in
-      ap (λ ts. map_from at ts) split ∙ map_first at t pages (types_of (all_pages (drop (next + count) runs))) step.some other
-
-pub map_over : (runs : List Run) (at next : ℕ) → length runs ≤ next → map_from at (types_of (all_pages (drop next runs))) ≡ []
-map_over runs at next h = ap (λ ps. map_from at (types_of ps)) (pages_end runs next h) ∙ map_none at
-
--- the runs that are left as the code cuts them
-pub rest_is : (runs : List Run) (next : ℕ) → take (length runs - next) (drop next runs) ≡ drop next runs
-rest_is runs next = take_rest runs next
-
-pub rest_none : (runs : List Run) (next : ℕ) → NoneEmpty runs → NoneEmpty (take (length runs - next) (drop next runs))
-rest_none runs next all = subst NoneEmpty (sym (rest_is runs next)) (none_drop next runs all)
-
-pub rest_few : (runs : List Run) (next : ℕ) → length (all_pages (take (length runs - next) (drop next runs))) ≤ length (all_pages runs)
-rest_few runs next =
-    let l = ap length (parts runs next) in
-    let m = ap (λ rs. length (all_pages rs)) (rest_is runs next) in
-    omega (arith, l, m, length-append (all_pages (take next runs)) (all_pages (drop next runs)))
-
-pub step_from : (runs s : List Run) (next count pages : ℕ) (d : Run) → s ≡ drop next runs → count ≤ length s → 0 < pages → next < length runs
-    → ((e : Run) → types_of (all_pages s) ≡ replicate pages (get_or s 0 e).page.memory_type ++ types_of (all_pages (drop count s)))
-    → ((e : Run) → count < length s → (get_or s 0 e).page.memory_type ≢ (get_or s count e).page.memory_type)
-    → Step runs s next count pages (get_or runs next d).page.memory_type
-step_from runs s next count pages d left below some inside types differ =
-    let first : (e : Run) → (get_or s 0 e).page.memory_type ≡ (get_or runs next d).page.memory_type
-    = (λ e. ap (λ r. r.page.memory_type) (ap (λ rs. get_or rs 0 e) left ∙ get_or-drop next runs 0 e ∙ ap (λ k. get_or runs k e) (add-zero next) ∙ get_or_default runs next e d inside)) in
-    record {
-      left = left;
-      below = below;
-      types = types d ∙ ap (λ t. replicate pages t ++ types_of (all_pages (drop count s))) (first d);
-      some = some;
-      differ = λ e more same. differ e more (first e ∙ same);
-    }
-
--- the descriptor of an address is the first one, or one of the others
-pub found_here : (at start t pages : ℕ) (list rest : List Descriptor) → list ≡ described start t pages ∷ rest → start ≤ at → at < start + 4096 * pages → descriptor_of list at ≡ Some (described start t pages)
-found_here at start t pages list rest e low high =
-    let p : nat_le start at ≡ true = grind (arith, nat_tests) in
-    let q : nat_lt at (start + 4096 * pages) ≡ true = grind (arith, nat_tests) in
-    rw e (rw (p, q) refl)
-
-pub found_later : (at start t pages : ℕ) (list rest : List Descriptor) → list ≡ described start t pages ∷ rest → (start ≤ at → at < start + 4096 * pages → ⊥) → descriptor_of list at ≡ descriptor_of rest at
-found_later at start t pages list rest e outside =
-    let p : (nat_le start at && nat_lt at (start + 4096 * pages)) ≡ false = elim (leb_tells start at) [
-      | inl l ↦ (let low : start ≤ at = l.1 in let over : start + 4096 * pages ≤ at = elim (leb_tells (start + 4096 * pages) at) [ inl m ↦ m.1 | inr m ↦ absurd (outside low m.1) ] in grind (arith, nat_tests))
-      | inr l ↦ (let under : at < start = l.1 in grind (arith, nat_tests))
-    ] in
-    rw e (rw p refl)
+-- the first descriptor as the code makes it
+pub first_is : (runs : List Run) (at count pages : ℕ) (d e : Run) (whole : List Descriptor) (x : Descriptor) → 0 < length runs → map_from at (types_of (all_pages runs)) ≡ whole
+    → Next runs at count pages (get_or runs 0 d).page.memory_type → x ≡ described at (get_or runs 0 e).page.memory_type pages
+    → whole ≡ x ∷ map_from (at + 4096 * pages) (types_of (all_pages (behind runs count)))
+first_is runs at count pages d e whole x some view n same =
+    sym view ∙ n.first
+    ∙ ap (λ y. y ∷ map_from (at + 4096 * pages) (types_of (all_pages (behind runs count)))) (ap (λ (r : Run). described at r.page.memory_type pages) (get_or_default runs 0 d e some) ∙ sym same)

@@ -31,6 +31,11 @@ types_of pages = map (λ page. page.memory_type) pages
 abbrev pub map_of : PageList → List Descriptor
 map_of m = map_from m.base (types_of m.pages)
 
+-- the first of the descriptors that are left, and what is left behind it
+abbrev pub IsNext : Option Descriptor → List Descriptor → List Descriptor → Type 0
+IsNext None old new = (old ≡ []) × (new ≡ [])
+IsNext (Some d) old new = old ≡ d ∷ new
+
 -- whether an address is in a descriptor's pages
 abbrev pub holds : ℕ → Descriptor → Bool
 holds at d = nat_le d.start at && nat_lt at (d.start + 4096 * d.pages)

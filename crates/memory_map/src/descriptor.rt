@@ -2,7 +2,7 @@
 #![tactic(auto)]
 
 ghost use Rattle.std.specs.Prelude.{◌≡◌};
-ghost use Rattle.memory_map.specs.Map.{attribute_of, described};
+ghost use Rattle.memory_map.specs.Map.{attribute_of, described, holds};
 
 /// Pages of one memory type in a row, as UEFI's EFI_MEMORY_DESCRIPTOR (UEFI 2.10, section 7.2).
 #[derive(Clone, Copy, Debug, PartialEq, Eq, Drop)]
@@ -17,6 +17,15 @@ pub struct Descriptor {
     pub pages: u64,
     /// What the memory can do: bit 3 is write-back caching, bit 63 that the firmware needs it at run time.
     pub attribute: u64,
+}
+
+impl Descriptor {
+    /// Whether an address is in the pages.
+    pub fn holds(&self, at: u64) -> bool
+        ensures { result ≡ holds at self.now }
+    {
+        at >= self.start && (at - self.start) / 4096 < self.pages
+    }
 }
 
 /// A buffer is too small for a memory map. It holds the size that is needed, in bytes.

@@ -1,6 +1,7 @@
 //! The memory map that a guest asks for.
 #![tactic(auto)]
 
+mod cursor;
 mod descriptor;
 mod laws;
 mod map;
@@ -8,7 +9,8 @@ mod map;
 mod tests;
 mod write;
 
+pub use cursor::MapCursor;
 pub use descriptor::{Descriptor, TooSmall};
 pub use laws::map_is_map;
 pub use map::{descriptor_at, descriptors};
-pub use write::write_map;
+pub use write::{DESCRIPTOR_SIZE, descriptor_size, read_descriptor, write_map};

@@ -5,14 +5,15 @@ ghost use Rattle.std.specs.Prelude.{◌≡◌, ◌≢◌, ◌≤◌, ◌<◌, �
 ghost use Rattle.page_alloc.specs.Runs.{all_pages, NoneEmpty};
 ghost use Rattle.memory_map.specs.Map.{map_of, descriptor_of, types_of};
 
-use crate::descriptor::{Descriptor, described};
+use crate::cursor::MapCursor;
+use crate::descriptor::Descriptor;
 use page_alloc::{PageMap, Run};
 use std::alloc::{AllocError, Global};
 
 /// How many of the first runs have one type, and how many pages they have.
-fn stretch(runs: &[Run]) -> (usize, u64)
+pub fn stretch(runs: &[Run]) -> (usize, u64)
     requires some { 0 < length runs.now }
-    requires few { length (all_pages runs.now) < 2 ^ 32 }
+    requires few { length (all_pages runs.now) < 2 ^ 40 }
     requires none_empty { NoneEmpty runs.now }
     ensures runs { 0 < result.0 }
     ensures below { result.0 ≤ length runs.now }
@@ -35,16 +36,10 @@ fn stretch(runs: &[Run]) -> (usize, u64)
 pub fn descriptors(alloc: Global, map: &PageMap) -> Result<Vec<Descriptor>, AllocError>
     ensures { IfOk result (λ list. list.items ≡ map_of map.now) }
 {
-    map.whole();
-    let runs = map.runs();
+    let mut cursor = MapCursor::new(map);
     let mut list = Vec::new(alloc);
-    let mut at = map.base();
-    let mut next = 0;
-    while next < runs.len() {
-        let (count, pages) = stretch(&runs[next..]);
-        list.push(described(at, runs[next].page.memory_type, pages))?;
-        at += 4096 * pages;
-        next += count;
+    while let Some(descriptor) = cursor.next() {
+        list.push(descriptor)?;
     }
     Ok(list)
 }
@@ -53,18 +48,11 @@ pub fn descriptors(alloc: Global, map: &PageMap) -> Result<Vec<Descriptor>, Allo
 pub fn descriptor_at(map: &PageMap, at: u64) -> Option<Descriptor>
     ensures { result ≡ descriptor_of (map_of map.now) at }
 {
-    map.whole();
-    let runs = map.runs();
-    let mut start = map.base();
-    let mut next = 0;
-    while next < runs.len() {
-        let (count, pages) = stretch(&runs[next..]);
-        let end = start + 4096 * pages;
-        if at >= start && at < end {
-            return Some(described(start, runs[next].page.memory_type, pages));
+    let mut cursor = MapCursor::new(map);
+    while let Some(descriptor) = cursor.next() {
+        if descriptor.holds(at) {
+            return Some(descriptor);
         }
-        start = end;
-        next += count;
     }
     None
 }

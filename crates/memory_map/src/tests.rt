@@ -3,7 +3,7 @@
 
 use crate::descriptor::{Descriptor, TooSmall};
 use crate::map::{descriptor_at, descriptors};
-use crate::write::write_map;
+use crate::write::{read_descriptor, write_map};
 use page_alloc::{Layout, Owner, PageMap};
 use std::test::Fail;
 
@@ -44,6 +44,7 @@ fn the_map_with_an_image(rt: HostRuntime) -> Result<(), Fail> {
         0, 0, 0, 0, 0, 8, 0, 0, 0, 0, 0, 0, 0,
     ];
     assert!(rt; buffer.starts_with(&first));
+    assert_eq!(rt; read_descriptor(&buffer[240..280]), wanted[6]);
     assert_eq!(rt; buffer[279], 0x80);
     assert_eq!(rt; buffer[280], 0xaa);
     let rows = [

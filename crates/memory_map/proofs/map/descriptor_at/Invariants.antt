@@ -1,14 +1,9 @@
-use Rattle.std.proofs.Common.{◌≡◌, ◌-◌, drop, length}
-use Rattle.page_alloc.specs.Runs.{all_pages}
-use Rattle.memory_map.specs.Map.{map_from, types_of, descriptor_of}
-use Rattle.memory_map.proofs.StretchLemmas.{Walk}
+use Rattle.std.proofs.Common.{◌≡◌, ◌++◌, length}
+use Rattle.memory_map.specs.Map.{map_of, descriptor_of}
 use Rattle.memory_map.proofs.map.descriptor_at.Given as goal
 
-abbrev pub invariant-loop-next : goal.invariant-loop-next
-invariant-loop-next l = record {
-  walk : Walk l.runs l.map.base l.start l.next;
-  so_far : descriptor_of (map_from l.start (types_of (all_pages (drop l.next l.runs)))) l.at ≡ descriptor_of (map_from l.map.base (types_of (all_pages l.runs))) l.at;
-}
+abbrev pub invariant-loop-descriptor : goal.invariant-loop-descriptor
+invariant-loop-descriptor l = descriptor_of l.cursor l.at ≡ descriptor_of (map_of l.map) l.at
 
-abbrev pub decreases-loop-next : goal.decreases-loop-next
-decreases-loop-next l = length l.runs - l.next
+abbrev pub decreases-loop-descriptor : goal.decreases-loop-descriptor
+decreases-loop-descriptor l = length l.cursor
