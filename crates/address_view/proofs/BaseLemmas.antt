@@ -3,8 +3,6 @@ use Rattle.std.proofs.Common.{◌≡◌, ℕ, List, [], ◌∷◌, Option, Some,
 use Rattle.uh_base.specs.Bytes.{next}
 use Rattle.guest_memory.specs.Pages.{Pages}
 use Rattle.guest_memory.specs.Changes.{TouchedBesides}
-use Rattle.address_view.specs.declared.view.Window.{Window}
-use Rattle.address_view.specs.Windows.{see}
 use Rattle.address_view.specs.Stored.{put_seen, stored}
 
 base_put : (m : Pages) (byte : ℕ) (o : Option ℕ) → (put_seen m byte o).base ≡ m.base
@@ -15,21 +13,21 @@ pages_put : (m : Pages) (byte : ℕ) (o : Option ℕ) → (put_seen m byte o).pa
 pages_put m byte None = refl
 pages_put m byte (Some place) = refl
 
-base_stored : (view : List Window) (m : Pages) (at : ℕ) (bytes : List ℕ) → (stored view m at bytes).base ≡ m.base
+pub base_stored : (see : ℕ → Option ℕ) (m : Pages) (at : ℕ) (bytes : List ℕ) → (stored see m at bytes).base ≡ m.base
 unfolding stored
-base_stored view m at [] = refl
-base_stored view m at (byte ∷ bytes) = base_stored view (put_seen m byte (see view at)) (next at) bytes ∙ base_put m byte (see view at)
+base_stored see m at [] = refl
+base_stored see m at (byte ∷ bytes) = base_stored see (put_seen m byte (see at)) (next at) bytes ∙ base_put m byte (see at)
 
-pages_stored : (view : List Window) (m : Pages) (at : ℕ) (bytes : List ℕ) → (stored view m at bytes).pages ≡ m.pages
+pub pages_stored : (see : ℕ → Option ℕ) (m : Pages) (at : ℕ) (bytes : List ℕ) → (stored see m at bytes).pages ≡ m.pages
 unfolding stored
-pages_stored view m at [] = refl
-pages_stored view m at (byte ∷ bytes) = pages_stored view (put_seen m byte (see view at)) (next at) bytes ∙ pages_put m byte (see view at)
+pages_stored see m at [] = refl
+pages_stored see m at (byte ∷ bytes) = pages_stored see (put_seen m byte (see at)) (next at) bytes ∙ pages_put m byte (see at)
 
-pub base_of_stored : (new m : Pages) (view : List Window) (at : ℕ) (bytes : List ℕ) → new ≡ stored view m at bytes → new.base ≡ m.base
-base_of_stored new m view at bytes e = ap (λ (x : Pages). x.base) e ∙ base_stored view m at bytes
+pub base_of_stored : (new m : Pages) (see : ℕ → Option ℕ) (at : ℕ) (bytes : List ℕ) → new ≡ stored see m at bytes → new.base ≡ m.base
+base_of_stored new m see at bytes e = ap (λ (x : Pages). x.base) e ∙ base_stored see m at bytes
 
-pub pages_of_stored : (new m : Pages) (view : List Window) (at : ℕ) (bytes : List ℕ) → new ≡ stored view m at bytes → new.pages ≡ m.pages
-pages_of_stored new m view at bytes e = ap (λ (x : Pages). x.pages) e ∙ pages_stored view m at bytes
+pub pages_of_stored : (new m : Pages) (see : ℕ → Option ℕ) (at : ℕ) (bytes : List ℕ) → new ≡ stored see m at bytes → new.pages ≡ m.pages
+pages_of_stored new m see at bytes e = ap (λ (x : Pages). x.pages) e ∙ pages_stored see m at bytes
 
 pub base_besides : (old new : Pages) → TouchedBesides old new → new.base ≡ old.base
 base_besides old new h = ap (λ (x : Pages). x.base) h.rest

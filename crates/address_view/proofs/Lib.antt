@@ -1,3 +1,4 @@
+pub mod MemoryLemmas
 pub mod ViewLemmas
 pub mod ShownLemmas
 pub mod PageRun
@@ -7,3 +8,5 @@ pub mod MarkedLemmas
 pub mod RangeLemmas
 pub mod LoopLemmas
 pub mod BaseLemmas
+pub mod TouchLaws
+pub mod PlaceLaws

@@ -4,7 +4,7 @@ use Rattle.std.specs.Prelude.{Option, Some, None, slice_get}
 use Rattle.std.proofs.lemmas.Bool.Decides.{nat_tests}
 use Rattle.rv_step.specs.declared.bus.Access.{Access}
 use Rattle.address_view.specs.declared.view.Window.{Window}
-use Rattle.address_view.specs.Windows.{Fits, AreWindows, shows, window_at, place_in, at_place}
+use Rattle.address_view.specs.Windows.{Fits, AreWindows, shows, see, window_at, place_in, at_place}
 use Rattle.address_view.specs.Seen.{view_allows, OnePage, may}
 use Rattle.address_view.proofs.ViewLemmas.{is_shown, shown, same_window}
 use Rattle.guest_memory.specs.Pages.{Pages, Whole, rights_at, holds, page_of}
@@ -36,7 +36,7 @@ same_rights m place i r whole e one =
 
 pub one_page_is : (ws : List Window) (m : Pages) (kind : Access) (w : Window) (r : Rights) (at width : ℕ) → AreWindows ws → Whole m → window_at ws at ≡ Some w → Fits w → shows w at ≡ true
     → at - w.virt + width ≤ w.len → (w.phys + (at - w.virt)) % 4096 + width ≤ 4096 → 1 ≤ width
-    → rights_at m (w.phys + (at - w.virt)) ≡ Some r → may kind (Some r) ≡ true → OnePage ws m kind at width (w.phys + (at - w.virt))
+    → rights_at m (w.phys + (at - w.virt)) ≡ Some r → may kind (Some r) ≡ true → OnePage (see ws) m kind at width (w.phys + (at - w.virt))
 unfolding view_allows
 one_page_is ws m kind w r at width are whole found fits s room one some rights can =
     let b = is_shown w at s in

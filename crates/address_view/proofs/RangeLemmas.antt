@@ -1,28 +1,12 @@
 -- Tests of so many addresses.
 use Rattle.guest_memory.specs.Runs.{bytes_from, with_bytes}
-use Rattle.std.proofs.Common.{subst, ◌≡◌, ◌≢◌, ℕ, ◌+◌, ◌*◌, ◌-◌, ◌/◌, ◌%◌, ◌^◌, ◌<◌, ◌≤◌, Bool, true, false, List, refl, sym, ◌∙◌, ap, arith, ◌⊎◌, inl, inr, cond, [], ◌∷◌, ◌++◌, zero, suc, not, length, length-set, take, drop}
-use Rattle.std.specs.Prelude.{◌==◌, ◌&&◌, nat_le, nat_lt, if◌then◌else◌, Option, Some, None, Result, Ok, Err, OnOk, OnErr, slice_set, slice_get, slice_index}
-use Rattle.std.proofs.lemmas.Grind.{common_steps}
+use Rattle.std.proofs.Common.{◌≡◌, ◌≢◌, ℕ, ◌^◌, ◌<◌, ◌≤◌, Bool, true, false, List, refl, sym, ◌∙◌, ap, arith, [], ◌∷◌, ◌++◌, zero, suc, length}
+use Rattle.std.specs.Prelude.{Some, None, slice_index}
 use Rattle.std.proofs.lemmas.Bool.Decides.{nat_tests}
-use Rattle.uh_base.specs.Bytes.{next, first_refused, number_at, with_byte, with_number, loaded}
-use Rattle.uh_base.specs.LittleEndian.{low_bytes}
-use Rattle.rv_step.specs.declared.bus.Access.{Access}
-use Rattle.rv_step.specs.declared.bus.Access.TheVariants.{Load, Store, Fetch}
-use Rattle.rv_step.specs.declared.bus.BusEnd.{BusEnd}
-use Rattle.rv_step.specs.Stores.{StoreEnds, StoredIn}
-use Rattle.guest_memory.specs.Lists.{count_true}
-use Rattle.guest_memory.specs.Pages.{Pages, Whole, bytes_of, rights_at, InPage, holds, page_of, is_touched, or_false}
-use Rattle.guest_memory.specs.Changes.{put_to, put_number, lacks, TouchedBesides}
-use Rattle.guest_memory.specs.declared.rights.Rights.{Rights}
-use Rattle.guest_memory.proofs.MarkLemmas.{set_again, set_twice, too_many}
-use Rattle.address_view.specs.declared.view.Window.{Window}
-use Rattle.address_view.specs.Windows.{AreWindows, see, at_place, seen_bytes}
-use Rattle.address_view.specs.Seen.{may, view_allows, is_seen, behind, AllPass, OnePage}
-use Rattle.address_view.specs.Stored.{put_seen, stored, store_seen, mark_seen, marked, lacks_seen, is_marked, all_marked, all_touched, AllowsStores, PageSeen}
+use Rattle.uh_base.specs.Bytes.{next, first_refused, with_byte, behind}
+use Rattle.address_view.specs.Laws.{AllPass}
 use Rattle.std.proofs.lemmas.List.{append-nil, append_assoc}
-use Rattle.std.specs.Prelude.{IsTrue, ◌↔◌, is_none}
-use Rattle.address_view.proofs.StoreLaws.{unrefused, seen_store, rights_store}
-use Rattle.guest_memory.proofs.RunLemmas.{same_bytes, same_rights}
+use Rattle.address_view.proofs.StoreLaws.{unrefused}
 
 pub behind_next : (at i : ℕ) → behind (next at) i ≡ behind at (suc i)
 behind_next at i = omega arith
@@ -30,7 +14,7 @@ behind_next at i = omega arith
 pub behind_none : (at : ℕ) → at < 2 ^ 64 → behind at 0 ≡ at
 behind_none at h = omega arith
 
-next_low : (at : ℕ) → next at < 2 ^ 64
+pub next_low : (at : ℕ) → next at < 2 ^ 64
 next_low at = omega arith
 
 pass_by : (test : ℕ → Bool) (at n : ℕ) → at < 2 ^ 64 → test at ≡ true → AllPass test (next at) n → (i : ℕ) → i < suc n → test (behind at i) ≡ true
@@ -55,7 +39,7 @@ none_of_pass test at (suc n) low all =
 byte_there : (bytes : ℕ → ℕ) (at byte a : ℕ) → a ≡ at → with_byte bytes at byte a ≡ byte
 byte_there bytes at byte a e = grind (arith, nat_tests)
 
-byte_other : (bytes : ℕ → ℕ) (at byte a : ℕ) → a ≢ at → with_byte bytes at byte a ≡ bytes a
+pub byte_other : (bytes : ℕ → ℕ) (at byte a : ℕ) → a ≢ at → with_byte bytes at byte a ≡ bytes a
 byte_other bytes at byte a ne = grind (arith, nat_tests)
 
 -- an address that no byte is stored at keeps its byte

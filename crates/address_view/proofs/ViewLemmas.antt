@@ -4,7 +4,7 @@ use Rattle.std.specs.Prelude.{◌==◌, Option, Some, None}
 use Rattle.std.proofs.Math.Path.{fun_ext}
 use Rattle.std.proofs.lemmas.Bool.Decides.{nat_tests, eqb_tells}
 use Rattle.address_view.specs.declared.view.Window.{Window}
-use Rattle.address_view.specs.Windows.{Fits, Disjoint, ApartFrom, AreWindows, shows, see, window_at, place_in, at_place, seen_bytes}
+use Rattle.address_view.specs.Windows.{Fits, Disjoint, ApartFrom, AreWindows, shows, see, window_at, place_in, at_place, seen_bytes, ShowsOnce}
 use Rattle.uh_base.specs.Bytes.{with_byte}
 
 pub is_shown : (w : Window) (at : ℕ) → shows w at ≡ true → (w.virt ≤ at) × (at < w.virt + w.len)
@@ -96,20 +96,20 @@ same_window [] w at a are e s = grind arith
 same_window (u ∷ us) w at a are e s = same_by u w us at a are.1 (λ f. same_window us w at a are.2 f s) s (shows u at) e
 
 -- a byte stored through one address changes what is seen there and nowhere else
-seen_at : (ws : List Window) (bytes : ℕ → ℕ) (at place byte a : ℕ) → AreWindows ws → see ws at ≡ Some place → (o : Option ℕ) → see ws a ≡ o
+seen_at : (shown : ℕ → Option ℕ) (bytes : ℕ → ℕ) (at place byte a : ℕ) → ShowsOnce shown → shown at ≡ Some place → (o : Option ℕ) → shown a ≡ o
     → at_place 0 (with_byte bytes place byte) o ≡ cond (a == at) byte (at_place 0 bytes o)
-seen_at ws bytes at place byte a are e None f =
+seen_at shown bytes at place byte a once e None f =
     elim (eqb_tells a at) [
-      | inl same ↦ (let g : Some place ≡ None = sym e ∙ ap (see ws) (sym same.1) ∙ f in grind arith)
+      | inl same ↦ (let g : Some place ≡ None = sym e ∙ ap shown (sym same.1) ∙ f in grind arith)
       | inr other ↦ rw other.0 refl
     ]
-seen_at ws bytes at place byte a are e (Some p) f =
+seen_at shown bytes at place byte a once e (Some p) f =
     elim (eqb_tells a at) [
-      | inl same ↦ (let g : Some p ≡ Some place = sym f ∙ ap (see ws) same.1 ∙ e in let h : p ≡ place = cc in rw (same.0, h) (grind (arith, nat_tests)))
-      | inr other ↦ (let n : p ≢ place = λ h. other.1 (one_address ws a at p are f (e ∙ ap Some (sym h))) in rw other.0 (grind (arith, nat_tests)))
+      | inl same ↦ (let g : Some p ≡ Some place = sym f ∙ ap shown same.1 ∙ e in let h : p ≡ place = cc in rw (same.0, h) (grind (arith, nat_tests)))
+      | inr other ↦ (let n : p ≢ place = λ h. other.1 (once a at p f (e ∙ ap Some (sym h))) in rw other.0 (grind (arith, nat_tests)))
     ]
 
-pub seen_byte : (ws : List Window) (bytes : ℕ → ℕ) (at place byte : ℕ) → AreWindows ws → see ws at ≡ Some place
-    → seen_bytes ws (with_byte bytes place byte) ≡ with_byte (seen_bytes ws bytes) at byte
+pub seen_byte : (shown : ℕ → Option ℕ) (bytes : ℕ → ℕ) (at place byte : ℕ) → ShowsOnce shown → shown at ≡ Some place
+    → seen_bytes shown (with_byte bytes place byte) ≡ with_byte (seen_bytes shown bytes) at byte
 unfolding seen_bytes
-seen_byte ws bytes at place byte are e = fun_ext (λ a. seen_at ws bytes at place byte a are e (see ws a) refl)
+seen_byte shown bytes at place byte once e = fun_ext (λ a. seen_at shown bytes at place byte a once e (shown a) refl)

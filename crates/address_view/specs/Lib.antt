@@ -1,3 +1,4 @@
 pub mod Windows
 pub mod Seen
 pub mod Stored
+pub mod Laws

@@ -1,5 +1,5 @@
 -- Which place in memory an address shows.
-use Rattle.std.specs.Prelude.{ℕ, ◌+◌, ◌-◌, ◌<◌, ◌≤◌, ◌^◌, ◌&&◌, nat_le, nat_lt, Bool, List, [], ◌∷◌, Option, Some, None, if◌then◌else◌}
+use Rattle.std.specs.Prelude.{ℕ, ◌≡◌, ◌+◌, ◌-◌, ◌<◌, ◌≤◌, ◌^◌, ◌&&◌, nat_le, nat_lt, Bool, List, [], ◌∷◌, Option, Some, None, if◌then◌else◌}
 use Rattle.address_view.specs.declared.view.Window.{Window}
 
 -- a window's ranges don't wrap
@@ -57,6 +57,10 @@ abbrev pub at_place : {X : Type 0} → X → (ℕ → X) → Option ℕ → X
 at_place none f None = none
 at_place none f (Some place) = f place
 
--- the byte that is seen at each address, 0 where none is
-unfoldable pub seen_bytes : List Window → (ℕ → ℕ) → ℕ → ℕ
-seen_bytes view bytes = λ at. at_place 0 bytes (see view at)
+-- the byte that is seen at each address, 0 where none is, by the place that each address shows
+unfoldable pub seen_bytes : (ℕ → Option ℕ) → (ℕ → ℕ) → ℕ → ℕ
+seen_bytes shown bytes = λ at. at_place 0 bytes (shown at)
+
+-- no place is shown at two addresses
+abbrev pub ShowsOnce : (ℕ → Option ℕ) → Type 0
+ShowsOnce shown = (a b place : ℕ) → shown a ≡ Some place → shown b ≡ Some place → a ≡ b

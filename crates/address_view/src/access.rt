@@ -3,9 +3,10 @@
 
 ghost use Rattle.std.specs.Prelude.{◌≡◌, ◌<◌, ◌≤◌, ◌+◌, ◌%◌, ◌^◌, IsTrue, IfSome, IfOk};
 ghost use Rattle.rv_step.specs.declared.bus.Access.{Access};
+ghost use Rattle.rv_step.specs.Exec.{AreHalves};
 ghost use Rattle.uh_base.specs.Bytes.{is_width, loaded, first_refused, number_at};
 ghost use Rattle.guest_memory.specs.Pages.{bytes_of, rights_at};
-ghost use Rattle.address_view.specs.Windows.{seen_bytes};
+ghost use Rattle.address_view.specs.Windows.{see, seen_bytes};
 ghost use Rattle.address_view.specs.Seen.{may, view_allows, OnePage};
 
 use crate::view::View;
@@ -34,7 +35,7 @@ pub(crate) fn one_page(
     kind: Access,
 ) -> Option<u64>
     requires { 1 ≤ width }
-    ensures { IfSome result (λ place. OnePage view.now memory.now kind at width place) }
+    ensures { IfSome result (λ place. OnePage (see view.now) memory.now kind at width place) }
 {
     memory.whole();
     view.whole();
@@ -71,7 +72,7 @@ pub(crate) fn next(at: u64) -> u64
 
 #[tactic(auto, unfolding(crate::specs::Seen::view_allows))]
 fn allows_at(memory: &GuestMemory, view: &View, at: u64, kind: Access) -> bool
-    ensures { result ≡ view_allows view.now (rights_at memory.now) kind at }
+    ensures { result ≡ view_allows (see view.now) (rights_at memory.now) kind at }
 {
     match view.translate(at) {
         Some(place) => match memory.rights_at(place) {
@@ -84,14 +85,8 @@ fn allows_at(memory: &GuestMemory, view: &View, at: u64, kind: Access) -> bool
 
 /// The first of so many addresses that doesn't allow an access.
 #[tactic(auto, unfolding(uh_base::specs::Bytes::first_refused))]
-pub(crate) fn refused(
-    memory: &GuestMemory,
-    view: &View,
-    at: u64,
-    len: u64,
-    kind: Access,
-) -> Option<u64>
-    ensures { result ≡ first_refused (view_allows view.now (rights_at memory.now) kind) at len }
+pub fn refused(memory: &GuestMemory, view: &View, at: u64, len: u64, kind: Access) -> Option<u64>
+    ensures { result ≡ first_refused (view_allows (see view.now) (rights_at memory.now) kind) at len }
 {
     let mut here = at;
     for _ in 0..len {
@@ -106,7 +101,7 @@ pub(crate) fn refused(
 /// The byte that is seen at an address, 0 where none is.
 #[tactic(auto, unfolding(crate::specs::Windows::seen_bytes, guest_memory::specs::Pages::bytes_of))]
 pub(crate) fn byte_at(memory: &GuestMemory, view: &View, at: u64) -> u8
-    ensures { result ≡ seen_bytes view.now (bytes_of memory.now) at }
+    ensures { result ≡ seen_bytes (see view.now) (bytes_of memory.now) at }
 {
     match view.translate(at) {
         Some(place) => match memory.get(place) {
@@ -117,10 +112,11 @@ pub(crate) fn byte_at(memory: &GuestMemory, view: &View, at: u64) -> u8
     }
 }
 
+/// The number that so many bytes make as they are seen, whatever their rights.
 #[tactic(auto, unfolding(uh_base::specs::Bytes::number_at))]
-fn number_slowly(memory: &GuestMemory, view: &View, at: u64, width: u8) -> u64
+pub fn number_slowly(memory: &GuestMemory, view: &View, at: u64, width: u8) -> u64
     requires { width ≤ 8 }
-    ensures value { result ≡ number_at (seen_bytes view.now (bytes_of memory.now)) at width }
+    ensures value { result ≡ number_at (seen_bytes (see view.now) (bytes_of memory.now)) at width }
     ensures below { result < 256 ^ width }
 {
     if width == 0 {
@@ -140,7 +136,7 @@ fn load_slowly(
     kind: Access,
 ) -> Result<u64, u64>
     requires { width ≤ 8 }
-    ensures loads { result ≡ loaded (seen_bytes view.now (bytes_of memory.now)) (view_allows view.now (rights_at memory.now) kind) at width }
+    ensures loads { result ≡ loaded (seen_bytes (see view.now) (bytes_of memory.now)) (view_allows (see view.now) (rights_at memory.now) kind) at width }
     ensures below { IfOk result (λ number. number < 256 ^ width) }
 {
     match refused(memory, view, at, u64::from(width), kind) {
@@ -152,7 +148,7 @@ fn load_slowly(
 /// The number of so many bytes at an address, or the first address that doesn't allow the access.
 #[tactic(auto, using(crate::proofs::RunLemmas::fast_load))]
 #[inline(always)]
-pub(crate) fn load_through(
+pub fn load_through(
     memory: &GuestMemory,
     view: &View,
     at: u64,
@@ -160,11 +156,26 @@ pub(crate) fn load_through(
     kind: Access,
 ) -> Result<u64, u64>
     requires { IsTrue (is_width width) }
-    ensures loads { result ≡ loaded (seen_bytes view.now (bytes_of memory.now)) (view_allows view.now (rights_at memory.now) kind) at width }
+    ensures loads { result ≡ loaded (seen_bytes (see view.now) (bytes_of memory.now)) (view_allows (see view.now) (rights_at memory.now) kind) at width }
     ensures below { IfOk result (λ number. number < 256 ^ width) }
 {
     match one_page(memory, view, at, width, kind) {
         Some(place) => Ok(memory.number(place, width)),
         None => load_slowly(memory, view, at, width, kind),
+    }
+}
+
+/// Both halves of an instruction of 32 bits, if they lie in one window and one page that may be executed.
+#[tactic(auto, using(crate::proofs::RunLemmas::half_inside, crate::proofs::RunLemmas::other_inside))]
+#[inline(always)]
+pub(crate) fn both_halves(memory: &GuestMemory, view: &View, at: u64) -> Option<(u16, u16)>
+    ensures { IfSome result (AreHalves (seen_bytes (see view.now) (bytes_of memory.now)) (view_allows (see view.now) (rights_at memory.now) Access.Fetch) at) }
+{
+    match one_page(memory, view, at, 4, Access::Fetch) {
+        Some(place) => Some((
+            memory.number(place, 2) as u16,
+            memory.number(place + 2, 2) as u16,
+        )),
+        None => None,
     }
 }

@@ -1,17 +1,22 @@
-//! Laws of windows and of stores through them.
+//! Laws of windows, and of loads and stores through them.
 #![tactic(auto)]
 
 ghost use Rattle.guest_memory.specs.Runs.{with_bytes};
-ghost use Rattle.std.specs.Prelude.{◌≡◌, ◌≢◌, ◌↔◌, ◌<◌, ◌≤◌, ◌^◌, ℕ, List, Some, length, slice_index};
-ghost use Rattle.uh_base.specs.Bytes.{with_byte};
+ghost use Rattle.guest_memory.specs.Pages.{Pages, rights_at};
+ghost use Rattle.std.specs.Prelude.{◌≡◌, ◌≢◌, ◌↔◌, ◌<◌, ◌≤◌, ◌^◌, ℕ, true, Bool, List, Option, Some, None, length, slice_index};
+ghost use Rattle.uh_base.specs.Bytes.{with_byte, first_refused, behind};
+ghost use Rattle.rv_step.specs.declared.bus.Access.{Access as AnyAccess};
 ghost use Rattle.address_view.specs.declared.view.Window.{Window as AnyWindow};
-ghost use Rattle.address_view.specs.Windows.{AreWindows, see, shown_at, seen_bytes};
-ghost use Rattle.address_view.specs.Seen.{behind};
+ghost use Rattle.address_view.specs.Windows.{AreWindows, ShowsOnce, see, shown_at, seen_bytes};
+ghost use Rattle.address_view.specs.Seen.{all_pass, view_allows, is_seen};
+ghost use Rattle.address_view.specs.Laws.{AllPass, PlacesDecide, OthersStay, TouchedSuffice, SameMarked, StoredOver};
+
+use guest_memory::{bytes_are_put, marks_are_put};
 
 /// No place is seen at two addresses.
-#[tactic(auto, using(crate::proofs::ViewLemmas::one_address))]
+#[tactic(auto, using(crate::proofs::StoreLaws::once))]
 pub fn one_address()
-    ensures { (ws : List AnyWindow) (a b place : ℕ) → AreWindows ws → see ws a ≡ Some place → see ws b ≡ Some place → a ≡ b }
+    ensures { (ws : List AnyWindow) → AreWindows ws → ShowsOnce (see ws) }
 {}
 
 /// An address shows a place exactly where the place is shown at the address.
@@ -22,13 +27,42 @@ pub fn seen_and_shown()
 
 /// A byte that is put at the place of one address is seen at that address, and changes nothing that is seen
 /// at another.
-#[tactic(auto, using(crate::proofs::ViewLemmas::seen_byte))]
 pub fn seen_elsewhere()
-    ensures { (ws : List AnyWindow) (bytes : ℕ → ℕ) (at place byte : ℕ) → AreWindows ws → see ws at ≡ Some place → seen_bytes ws (with_byte bytes place byte) ≡ with_byte (seen_bytes ws bytes) at byte }
+    ensures { (shown : ℕ → Option ℕ) (bytes : ℕ → ℕ) (at place byte : ℕ) → ShowsOnce shown → shown at ≡ Some place → seen_bytes shown (with_byte bytes place byte) ≡ with_byte (seen_bytes shown bytes) at byte }
 {}
 
 /// Behind a store of bytes each of its addresses has its byte, and every other address has what it had.
 pub fn bytes_behind_a_store()
     ensures stored { (bytes : ℕ → ℕ) (at i : ℕ) (list : List ℕ) → at < 2 ^ 64 → length list ≤ 2 ^ 64 → i < length list → with_bytes bytes at list (behind at i) ≡ slice_index list i }
     ensures others { (bytes : ℕ → ℕ) (at other : ℕ) (list : List ℕ) → at < 2 ^ 64 → ((i : ℕ) → i < length list → behind at i ≢ other) → with_bytes bytes at list other ≡ bytes other }
+{}
+
+/// A range passes a test exactly where each of its addresses does, which is exactly where `first_refused` finds
+/// none; and a range that allows an access shows memory.
+pub fn ranges_pass()
+    ensures each { (test : ℕ → Bool) (at n : ℕ) → at < 2 ^ 64 → (all_pass test at n ≡ true) ↔ AllPass test at n }
+    ensures none { (test : ℕ → Bool) (at n : ℕ) → (all_pass test at n ≡ true) ↔ (first_refused test at n ≡ None) }
+    ensures seen { (shown : ℕ → Option ℕ) (m : Pages) (kind : AnyAccess) (at n : ℕ) → all_pass (view_allows shown (rights_at m) kind) at n ≡ true → all_pass (is_seen shown m) at n ≡ true }
+{}
+
+/// What is loaded and stored depends on the places alone, through whatever view and at whatever addresses.
+pub fn places_decide()
+    ensures { PlacesDecide }
+{}
+
+/// After a store a place that none of its addresses shows has the byte that it had, and a page is touched exactly
+/// where it was or one of the addresses shows it.
+pub fn others_stay()
+    ensures { OthersStay }
+{
+    bytes_are_put();
+    marks_are_put();
+}
+
+/// A store on touched pages changes no mark and never lacks frames; and whatever is marked, a store puts the
+/// same bytes.
+pub fn touched_pages_suffice()
+    ensures sure { TouchedSuffice }
+    ensures marked { SameMarked }
+    ensures over { StoredOver }
 {}

@@ -10,7 +10,11 @@ mod tests;
 mod view;
 mod viewed;
 
-pub use laws::{bytes_behind_a_store, one_address, seen_and_shown, seen_elsewhere};
-pub use ranges::{allowed, is_seen, load_bytes, store_bytes};
+pub use access::{load_through, number_slowly, refused};
+pub use laws::{
+    bytes_behind_a_store, one_address, others_stay, places_decide, ranges_pass, seen_and_shown,
+    seen_elsewhere, touched_pages_suffice,
+};
+pub use ranges::{allowed, is_seen, load_bytes, put_bytes, put_touched, store_bytes, touch_bytes};
 pub use view::{View, Window};
 pub use viewed::Viewed;

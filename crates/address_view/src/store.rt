@@ -6,26 +6,29 @@ ghost use Rattle.rv_step.specs.declared.bus.Access.{Access};
 ghost use Rattle.uh_base.specs.Bytes.{is_width, first_refused};
 ghost use Rattle.rv_step.specs.Stores.{StoreEnds, StoredIn};
 ghost use Rattle.guest_memory.specs.Lists.{count_true};
-ghost use Rattle.guest_memory.specs.Pages.{bytes_of, rights_at, or_false};
+ghost use Rattle.guest_memory.specs.Pages.{bytes_of, rights_at};
 ghost use Rattle.guest_memory.specs.Changes.{TouchedBesides};
 ghost use Rattle.address_view.specs.Windows.{see};
-ghost use Rattle.address_view.specs.Seen.{view_allows, OnePage};
-ghost use Rattle.address_view.specs.Stored.{store_seen, stored, put_seen, mark_seen, marked, is_marked, all_marked, lacks_seen, all_touched, StoreGives, AllowsStores, PageSeen};
+ghost use Rattle.address_view.specs.Seen.{is_seen, view_allows, OnePage};
+ghost use Rattle.address_view.specs.Stored.{store_seen, stored, put_seen, mark_seen, marked, is_marked, all_marked, lacks_seen, all_touched, StoreGives, TouchesGive, AllSeen, PageSeen};
 
 use crate::access::{next, one_page, refused};
 use crate::view::View;
 use guest_memory::{GuestMemory, PutEnd};
 use rv_step::{Access, BusEnd};
-use std::alloc::{AllocError, Global};
+use std::alloc::AllocError;
 use uh_base::write_number;
 
 /// The most pages that are touched at one time.
 const FRAMES: u64 = 65536;
 
+/// The most pages that a memory has.
+const MOST_PAGES: usize = 1048576;
+
 /// The page of the place that an address shows, counted from the base of memory.
 fn page_seen(memory: &GuestMemory, view: &View, at: u64) -> u32
-    requires { view_allows view.now (rights_at memory.now) Access.Store at ≡ true }
-    ensures { PageSeen view.now memory.now at result }
+    requires { is_seen (see view.now) memory.now at ≡ true }
+    ensures { PageSeen (see view.now) memory.now at result }
 {
     let place = match view.translate(at) {
         Some(place) => place,
@@ -40,7 +43,7 @@ fn page_seen(memory: &GuestMemory, view: &View, at: u64) -> u32
 /// Whether the page of the place that an address shows is touched.
 #[tactic(auto, using(crate::proofs::LoopLemmas::touched_there))]
 fn is_touched_at(memory: &GuestMemory, view: &View, at: u64) -> bool
-    requires { view_allows view.now (rights_at memory.now) Access.Store at ≡ true }
+    requires { is_seen (see view.now) memory.now at ≡ true }
     ensures { result ≡ is_marked memory.now.base memory.now.touched (see view.now at) }
 {
     memory.is_touched(page_seen(memory, view, at))
@@ -49,8 +52,8 @@ fn is_touched_at(memory: &GuestMemory, view: &View, at: u64) -> bool
 /// Whether each page that so many addresses show is touched.
 #[tactic(auto, unfolding(crate::specs::Stored::all_marked))]
 fn are_all_touched(memory: &GuestMemory, view: &View, at: u64, len: u64) -> bool
-    requires { AllowsStores view.now memory.now at len }
-    ensures { result ≡ all_touched view.now memory.now at len }
+    requires { AllSeen (see view.now) memory.now at len }
+    ensures { result ≡ all_touched (see view.now) memory.now at len }
 {
     let mut here = at;
     for _ in 0..len {
@@ -64,12 +67,12 @@ fn are_all_touched(memory: &GuestMemory, view: &View, at: u64, len: u64) -> bool
 
 /// Marks the page of the place that an address shows, and says how many marks that adds.
 #[tactic(auto, using(crate::proofs::LoopLemmas::marked_already, crate::proofs::LoopLemmas::marked_anew))]
-fn mark(memory: &GuestMemory, view: &View, marks: &mut Vec<bool>, at: u64) -> u64
-    requires allowed { view_allows view.now (rights_at memory.now) Access.Store at ≡ true }
-    requires long { length marks.old.items ≡ memory.now.pages }
-    ensures marks { marks.new.items ≡ mark_seen memory.now.base marks.old.items (see view.now at) }
-    ensures long { length marks.new.items ≡ memory.now.pages }
-    ensures count { count_true marks.new.items ≡ count_true marks.old.items + result }
+fn mark(memory: &GuestMemory, view: &View, marks: &mut [bool], at: u64) -> u64
+    requires allowed { is_seen (see view.now) memory.now at ≡ true }
+    requires long { length marks.old ≡ memory.now.pages }
+    ensures marks { marks.new ≡ mark_seen memory.now.base marks.old (see view.now at) }
+    ensures long { length marks.new ≡ memory.now.pages }
+    ensures count { count_true marks.new ≡ count_true marks.old + result }
     ensures one { result ≤ 1 }
 {
     let page = page_seen(memory, view, at) as usize;
@@ -80,106 +83,63 @@ fn mark(memory: &GuestMemory, view: &View, marks: &mut Vec<bool>, at: u64) -> u6
     1
 }
 
-/// How many pages would be touched after a store of so many bytes.
+/// How many pages are touched once those that so many addresses show are marked besides.
 #[tactic(auto, unfolding(crate::specs::Stored::marked))]
-fn count_after(
-    alloc: Global,
-    memory: &GuestMemory,
-    view: &View,
-    at: u64,
-    len: u64,
-) -> Result<u64, AllocError>
-    requires { AllowsStores view.now memory.now at len }
-    ensures { IfOk result (λ count. count ≡ count_true (marked view.now memory.now.base memory.now.touched at len)) }
-{
-    memory.whole();
-    let mut marks = memory.touched_marks(alloc)?;
-    let mut count = u64::from(memory.touched());
-    let mut here = at;
-    for _ in 0..len {
-        count += mark(memory, view, &mut marks, here);
-        here = next(here);
-    }
-    Ok(count)
-}
-
-/// Whether a store of so many bytes would touch more than 65,536 pages. Memory is only needed where it could,
-/// and then only if one of its pages isn't touched.
-#[tactic(auto, using(crate::proofs::MarkedLemmas::room_for, crate::proofs::MarkedLemmas::no_more))]
-fn lacks_frames(
-    alloc: Global,
-    memory: &GuestMemory,
-    view: &View,
-    at: u64,
-    len: u64,
-) -> Result<bool, AllocError>
-    requires { AllowsStores view.now memory.now at len }
-    ensures ok { IfOk result (λ lacks. lacks ≡ lacks_seen view.now memory.now at len) }
-    ensures err { OnErr result (all_touched view.now memory.now at len ≡ false) }
-{
-    memory.whole();
-    if len <= FRAMES - u64::from(memory.touched()) {
-        return Ok(false);
-    }
-    if are_all_touched(memory, view, at, len) {
-        return Ok(false);
-    }
-    let count = count_after(alloc, memory, view, at, len)?;
-    Ok(count > FRAMES)
-}
-
-/// Whether a page is touched or is that of one of so many addresses.
-fn is_met(memory: &GuestMemory, view: &View, at: u64, len: u64, page: u32) -> bool
-    requires allowed { AllowsStores view.now memory.now at len }
-    requires page { page < memory.now.pages }
-    ensures { result ≡ or_false (slice_get (marked view.now memory.now.base memory.now.touched at len) page) }
-{
-    memory.whole();
-    let mut here = at;
-    for _ in 0..len {
-        if page_seen(memory, view, here) == page {
-            return true;
-        }
-        here = next(here);
-    }
-    memory.is_touched(page)
-}
-
-/// How many pages would be touched after a store of so few bytes. No memory is taken.
-fn count_few(memory: &GuestMemory, view: &View, at: u64, len: u64) -> u64
-    requires allowed { AllowsStores view.now memory.now at len }
-    requires few { len ≤ 8 }
-    ensures { result ≡ count_true (marked view.now memory.now.base memory.now.touched at len) }
+fn count_marks(memory: &GuestMemory, view: &View, marks: &mut [bool], at: u64, len: u64) -> u64
+    requires allowed { AllSeen (see view.now) memory.now at len }
+    requires marks { marks.old ≡ memory.now.touched }
+    ensures { result ≡ count_true (marked (see view.now) memory.now.base memory.now.touched at len) }
 {
     memory.whole();
     let mut count = u64::from(memory.touched());
     let mut here = at;
-    for i in 0..len {
-        let page = page_seen(memory, view, here);
-        let met = is_met(memory, view, at, i, page);
-        count += u64::from(!met);
+    for _ in 0..len {
+        count += mark(memory, view, marks, here);
         here = next(here);
     }
     count
 }
 
-/// Whether a store of so few bytes would touch more than 65,536 pages.
-#[tactic(auto, using(crate::proofs::MarkedLemmas::room_for))]
-fn lacks_few(memory: &GuestMemory, view: &View, at: u64, len: u64) -> bool
-    requires allowed { AllowsStores view.now memory.now at len }
-    requires few { len ≤ 8 }
-    ensures { result ≡ lacks_seen view.now memory.now at len }
+/// Room for the marks of all pages that a memory may have.
+fn no_marks() -> [bool; MOST_PAGES]
+    ensures { length result ≡ 1048576 }
+{
+    [false; MOST_PAGES]
+}
+
+/// How many pages would be touched after a store of so many bytes. The marks are copied to the stack, so that no
+/// memory is taken.
+#[inline(never)]
+fn count_after(memory: &GuestMemory, view: &View, at: u64, len: u64) -> u64
+    requires { AllSeen (see view.now) memory.now at len }
+    ensures { result ≡ count_true (marked (see view.now) memory.now.base memory.now.touched at len) }
+{
+    memory.whole();
+    let mut marks = no_marks();
+    let marks = &mut marks[..memory.pages() as usize];
+    memory.copy_marks(marks);
+    count_marks(memory, view, marks, at, len)
+}
+
+/// Whether a store of so many bytes would touch more than 65,536 pages. Pages are counted only where it could.
+#[tactic(auto, using(crate::proofs::MarkedLemmas::room_for, crate::proofs::MarkedLemmas::no_more))]
+fn lacks_frames(memory: &GuestMemory, view: &View, at: u64, len: u64) -> bool
+    requires { AllSeen (see view.now) memory.now at len }
+    ensures { result ≡ lacks_seen (see view.now) memory.now at len }
 {
     memory.whole();
     if len <= FRAMES - u64::from(memory.touched()) {
         return false;
     }
-    count_few(memory, view, at, len) > FRAMES
+    if are_all_touched(memory, view, at, len) {
+        return false;
+    }
+    count_after(memory, view, at, len) > FRAMES
 }
 
 /// Touches the page of the place that an address shows.
 fn touch_at(memory: &mut GuestMemory, view: &View, at: u64) -> Result<(), AllocError>
-    requires allowed { view_allows view.now (rights_at memory.old) Access.Store at ≡ true }
+    requires allowed { is_seen (see view.now) memory.old at ≡ true }
     requires few { count_true (mark_seen memory.old.base memory.old.touched (see view.now at)) ≤ 65536 }
     ensures ok { OnOk result (memory.new ≡ record memory.old { touched = mark_seen memory.old.base memory.old.touched (see view.now at) }) }
     ensures err { OnErr result ((is_marked memory.old.base memory.old.touched (see view.now at) ≡ false) × TouchedBesides memory.old memory.new) }
@@ -196,10 +156,10 @@ fn touch_at(memory: &mut GuestMemory, view: &View, at: u64) -> Result<(), AllocE
 
 /// Touches the pages that so many addresses show.
 fn touch_all(memory: &mut GuestMemory, view: &View, at: u64, len: u64) -> Result<(), AllocError>
-    requires allowed { AllowsStores view.now memory.old at len }
-    requires few { lacks_seen view.now memory.old at len ≡ false }
-    ensures ok { OnOk result (memory.new ≡ record memory.old { touched = marked view.now memory.old.base memory.old.touched at len }) }
-    ensures err { OnErr result ((all_touched view.now memory.old at len ≡ false) × TouchedBesides memory.old memory.new) }
+    requires allowed { AllSeen (see view.now) memory.old at len }
+    requires few { lacks_seen (see view.now) memory.old at len ≡ false }
+    ensures ok { OnOk result (memory.new ≡ record memory.old { touched = marked (see view.now) memory.old.base memory.old.touched at len }) }
+    ensures err { OnErr result ((all_touched (see view.now) memory.old at len ≡ false) × TouchedBesides memory.old memory.new) }
 {
     let mut here = at;
     for _ in 0..len {
@@ -214,7 +174,7 @@ fn touch_all(memory: &mut GuestMemory, view: &View, at: u64, len: u64) -> Result
 
 /// Puts a byte at the place that an address shows, whose page is touched.
 fn put_at(memory: &mut GuestMemory, view: &View, at: u64, byte: u8)
-    requires allowed { view_allows view.now (rights_at memory.old) Access.Store at ≡ true }
+    requires allowed { is_seen (see view.now) memory.old at ≡ true }
     requires touched { is_marked memory.old.base memory.old.touched (see view.now at) ≡ true }
     ensures { memory.new ≡ put_seen memory.old byte (see view.now at) }
 {
@@ -231,10 +191,10 @@ fn put_at(memory: &mut GuestMemory, view: &View, at: u64, byte: u8)
 
 /// Puts bytes at the places that addresses show, whose pages are touched.
 #[tactic(auto, unfolding(crate::specs::Stored::stored))]
-fn put_all(memory: &mut GuestMemory, view: &View, at: u64, bytes: &[u8])
-    requires allowed { AllowsStores view.now memory.old at (length bytes.now) }
-    requires touched { all_touched view.now memory.old at (length bytes.now) ≡ true }
-    ensures { memory.new ≡ stored view.now memory.old at bytes.now }
+pub(crate) fn put_all(memory: &mut GuestMemory, view: &View, at: u64, bytes: &[u8])
+    requires allowed { AllSeen (see view.now) memory.old at (length bytes.now) }
+    requires touched { all_touched (see view.now) memory.old at (length bytes.now) ≡ true }
+    ensures { memory.new ≡ stored (see view.now) memory.old at bytes.now }
 {
     let mut here = at;
     for byte in bytes {
@@ -243,7 +203,7 @@ fn put_all(memory: &mut GuestMemory, view: &View, at: u64, bytes: &[u8])
     }
 }
 
-/// Stores bytes at addresses that allow it, where there are frames for them.
+/// Stores bytes at addresses that show memory, where there are frames for them.
 #[tactic(auto, using(crate::proofs::BaseLemmas::base_of_stored, crate::proofs::BaseLemmas::pages_of_stored, crate::proofs::BaseLemmas::base_besides, crate::proofs::BaseLemmas::pages_besides))]
 fn store_judged(
     memory: &mut GuestMemory,
@@ -251,10 +211,10 @@ fn store_judged(
     at: u64,
     bytes: &[u8],
 ) -> Result<(), AllocError>
-    requires allowed { AllowsStores view.now memory.old at (length bytes.now) }
-    requires few { lacks_seen view.now memory.old at (length bytes.now) ≡ false }
-    ensures ok { OnOk result (memory.new ≡ stored view.now memory.old at bytes.now) }
-    ensures err { OnErr result ((all_touched view.now memory.old at (length bytes.now) ≡ false) × TouchedBesides memory.old memory.new) }
+    requires allowed { AllSeen (see view.now) memory.old at (length bytes.now) }
+    requires few { lacks_seen (see view.now) memory.old at (length bytes.now) ≡ false }
+    ensures ok { OnOk result (memory.new ≡ stored (see view.now) memory.old at bytes.now) }
+    ensures err { OnErr result ((all_touched (see view.now) memory.old at (length bytes.now) ≡ false) × TouchedBesides memory.old memory.new) }
     ensures base { memory.new.base ≡ memory.old.base }
     ensures pages { memory.new.pages ≡ memory.old.pages }
 {
@@ -268,28 +228,49 @@ fn store_judged(
     }
 }
 
-/// Stores bytes at addresses that allow it, all of them or none.
+/// Touches the pages that so many addresses show, all of them or none.
+pub(crate) fn touch_pages(
+    memory: &mut GuestMemory,
+    view: &View,
+    at: u64,
+    len: u64,
+) -> Result<(), PutEnd>
+    requires { AllSeen (see view.now) memory.old at len }
+    ensures { TouchesGive result (see view.now) memory.old memory.new at len }
+{
+    if lacks_frames(memory, view, at, len) {
+        return Err(PutEnd::Frames);
+    }
+    match touch_all(memory, view, at, len) {
+        Ok(()) => Ok(()),
+        Err(AllocError) => Err(PutEnd::Memory),
+    }
+}
+
+/// Stores bytes at addresses that show memory, all of them or none.
 pub(crate) fn store_all(
-    alloc: Global,
     memory: &mut GuestMemory,
     view: &View,
     at: u64,
     bytes: &[u8],
 ) -> Result<(), PutEnd>
-    requires { AllowsStores view.now memory.old at (length bytes.now) }
-    ensures { StoreGives result view.now memory.old memory.new at bytes.now (length bytes.now) }
+    requires { AllSeen (see view.now) memory.old at (length bytes.now) }
+    ensures gives { StoreGives result (see view.now) memory.old memory.new at bytes.now (length bytes.now) }
+    ensures base { memory.new.base ≡ memory.old.base }
+    ensures pages { memory.new.pages ≡ memory.old.pages }
 {
-    match lacks_frames(alloc, memory, view, at, bytes.len() as u64) {
-        Ok(false) => match store_judged(memory, view, at, bytes) {
+    if lacks_frames(memory, view, at, bytes.len() as u64) {
+        Err(PutEnd::Frames)
+    } else {
+        match store_judged(memory, view, at, bytes) {
             Ok(()) => Ok(()),
             Err(AllocError) => Err(PutEnd::Memory),
-        },
-        Ok(true) => Err(PutEnd::Frames),
-        Err(AllocError) => Err(PutEnd::Memory),
+        }
     }
 }
 
 /// Stores a number where it may meet several pages or windows.
+#[tactic(auto, using(crate::proofs::StoreLaws::seen_if_allowed))]
 fn store_slowly(
     memory: &mut GuestMemory,
     view: &View,
@@ -298,8 +279,8 @@ fn store_slowly(
     value: u64,
 ) -> Result<(), BusEnd>
     requires { width ≤ 8 }
-    ensures end { StoreEnds result (first_refused (view_allows view.now (rights_at memory.old) Access.Store) at width) (lacks_seen view.now memory.old at width) (all_touched view.now memory.old at width) }
-    ensures content { StoredIn result memory.old (store_seen view.now memory.old at width value) memory.new }
+    ensures end { StoreEnds result (first_refused (view_allows (see view.now) (rights_at memory.old) Access.Store) at width) (lacks_seen (see view.now) memory.old at width) (all_touched (see view.now) memory.old at width) }
+    ensures content { StoredIn TouchedBesides result memory.old (store_seen (see view.now) memory.old at width value) memory.new }
     ensures err { OnErr result (bytes_of memory.new ≡ bytes_of memory.old) }
     ensures rights { rights_at memory.new ≡ rights_at memory.old }
     ensures base { memory.new.base ≡ memory.old.base }
@@ -311,7 +292,7 @@ fn store_slowly(
     }
 }
 
-/// Stores a number at addresses that allow it.
+/// Stores a number at addresses that show memory.
 fn store_allowed(
     memory: &mut GuestMemory,
     view: &View,
@@ -320,15 +301,15 @@ fn store_allowed(
     value: u64,
 ) -> Result<(), BusEnd>
     requires few { width ≤ 8 }
-    requires allowed { AllowsStores view.now memory.old at width }
-    ensures end { StoreEnds result None (lacks_seen view.now memory.old at width) (all_touched view.now memory.old at width) }
-    ensures content { StoredIn result memory.old (store_seen view.now memory.old at width value) memory.new }
+    requires allowed { AllSeen (see view.now) memory.old at width }
+    ensures end { StoreEnds result None (lacks_seen (see view.now) memory.old at width) (all_touched (see view.now) memory.old at width) }
+    ensures content { StoredIn TouchedBesides result memory.old (store_seen (see view.now) memory.old at width value) memory.new }
     ensures err { OnErr result (bytes_of memory.new ≡ bytes_of memory.old) }
     ensures rights { rights_at memory.new ≡ rights_at memory.old }
     ensures base { memory.new.base ≡ memory.old.base }
     ensures pages { memory.new.pages ≡ memory.old.pages }
 {
-    if lacks_few(memory, view, at, u64::from(width)) {
+    if lacks_frames(memory, view, at, u64::from(width)) {
         return Err(BusEnd::Frames);
     }
     let mut bytes = [0; 8];
@@ -340,7 +321,7 @@ fn store_allowed(
 }
 
 /// Stores a number in one page.
-#[tactic(auto, using(crate::proofs::RunLemmas::fast_content, crate::proofs::RunLemmas::lacks_is, crate::proofs::RunLemmas::unsure))]
+#[tactic(auto, using(crate::proofs::RunLemmas::fast_content, crate::proofs::RunLemmas::lacks_is, crate::proofs::RunLemmas::unsure, crate::proofs::RunLemmas::kept_all))]
 #[inline(always)]
 fn store_page(
     memory: &mut GuestMemory,
@@ -351,9 +332,9 @@ fn store_page(
     place: u64,
 ) -> Result<(), BusEnd>
     requires width { IsTrue (is_width width) }
-    requires one { OnePage view.now memory.old Access.Store at width place }
-    ensures end { StoreEnds result None (lacks_seen view.now memory.old at width) (all_touched view.now memory.old at width) }
-    ensures content { StoredIn result memory.old (store_seen view.now memory.old at width value) memory.new }
+    requires one { OnePage (see view.now) memory.old Access.Store at width place }
+    ensures end { StoreEnds result None (lacks_seen (see view.now) memory.old at width) (all_touched (see view.now) memory.old at width) }
+    ensures content { StoredIn TouchedBesides result memory.old (store_seen (see view.now) memory.old at width value) memory.new }
     ensures err { OnErr result (memory.new ≡ memory.old) }
     ensures base { memory.new.base ≡ memory.old.base }
     ensures pages { memory.new.pages ≡ memory.old.pages }
@@ -378,8 +359,8 @@ pub(crate) fn store_through(
     value: u64,
 ) -> Result<(), BusEnd>
     requires { IsTrue (is_width width) }
-    ensures end { StoreEnds result (first_refused (view_allows view.now (rights_at memory.old) Access.Store) at width) (lacks_seen view.now memory.old at width) (all_touched view.now memory.old at width) }
-    ensures content { StoredIn result memory.old (store_seen view.now memory.old at width value) memory.new }
+    ensures end { StoreEnds result (first_refused (view_allows (see view.now) (rights_at memory.old) Access.Store) at width) (lacks_seen (see view.now) memory.old at width) (all_touched (see view.now) memory.old at width) }
+    ensures content { StoredIn TouchedBesides result memory.old (store_seen (see view.now) memory.old at width value) memory.new }
     ensures err { OnErr result (bytes_of memory.new ≡ bytes_of memory.old) }
     ensures rights { rights_at memory.new ≡ rights_at memory.old }
     ensures base { memory.new.base ≡ memory.old.base }

@@ -62,10 +62,7 @@ fn bytes_over_a_page_edge(rt: HostRuntime) -> Result<(), Fail> {
     let mut memory = fresh(rt.alloc())?;
     let view = view_of(rt.alloc())?;
     assert!(rt; allowed(&memory, &view, 0x100fff, 2, true));
-    assert_eq!(rt;
-        store_bytes(rt.alloc(), &mut memory, &view, 0x100fff, &[1, 2]),
-        Ok(())
-    );
+    assert_eq!(rt; store_bytes(&mut memory, &view, 0x100fff, &[1, 2]), Ok(()));
     assert!(rt; is_seen(&memory, &view, 0x100fff, 2));
     let loaded = load_bytes(rt.alloc(), &memory, &view, 0x100fff, 2)?;
     assert_eq!(rt; loaded.as_slice(), [1, 2].as_slice());

@@ -3,14 +3,15 @@
 
 ghost use Rattle.std.specs.Prelude.{◌≡◌, ℕ, refl};
 ghost use Rattle.guest_memory.specs.Pages.{bytes_of, rights_at};
-ghost use Rattle.address_view.specs.Windows.{seen_bytes};
+ghost use Rattle.guest_memory.specs.Changes.{TouchedBesides};
+ghost use Rattle.address_view.specs.Windows.{see, seen_bytes};
 ghost use Rattle.address_view.specs.Seen.{view_allows};
 ghost use Rattle.address_view.specs.Stored.{store_seen, lacks_seen, all_touched};
 
-use crate::access::load_through;
+use crate::access::{both_halves, load_through};
 use crate::store::store_through;
 use crate::view::View;
-use guest_memory::GuestMemory;
+use guest_memory::{GuestMemory, bytes_are_put};
 use rv_step::{Access, Bus, BusEnd};
 
 /// Memory and the windows through which a guest sees it. Each access asks for the right of each page that
@@ -24,19 +25,21 @@ pub struct Viewed<'m, 'v> {
 }
 
 impl<'m, 'v> Bus for Viewed<'m, 'v> {
-    ghost bytes = { λ viewed. seen_bytes viewed.view.now (bytes_of viewed.memory.now) };
+    ghost bytes = { λ viewed. seen_bytes (see viewed.view.now) (bytes_of viewed.memory.now) };
 
-    ghost allows = { λ viewed. view_allows viewed.view.now (rights_at viewed.memory.now) };
+    ghost allows = { λ viewed. view_allows (see viewed.view.now) (rights_at viewed.memory.now) };
 
-    ghost lacks_frames = { λ viewed at width. lacks_seen viewed.view.now viewed.memory.now at width };
+    ghost lacks_frames = { λ viewed at width. lacks_seen (see viewed.view.now) viewed.memory.now at width };
 
-    ghost takes_no_memory = { λ viewed at width. all_touched viewed.view.now viewed.memory.now at width };
+    ghost takes_no_memory = { λ viewed at width. all_touched (see viewed.view.now) viewed.memory.now at width };
 
     type Content = GuestMemory;
 
     ghost content = { λ viewed. viewed.memory.now };
 
-    ghost after = { λ viewed at width value. store_seen viewed.view.now viewed.memory.now at width value };
+    ghost after = { λ viewed at width value. store_seen (see viewed.view.now) viewed.memory.now at width value };
+
+    ghost kept = { λ old new. TouchedBesides old new };
 
     ghost same = { λ old new. (new.memory.ghost_name ≡ old.memory.ghost_name) × (new.view.now ≡ old.view.now) × (new.memory.now.base ≡ old.memory.now.base) × (new.memory.now.pages ≡ old.memory.now.pages) };
 
@@ -53,6 +56,7 @@ impl<'m, 'v> Bus for Viewed<'m, 'v> {
         let view: &View = self.view;
         view.whole();
         self.memory.whole();
+        bytes_are_put();
         store_through(self.memory, view, at, width, value)
     }
 
@@ -62,5 +66,10 @@ impl<'m, 'v> Bus for Viewed<'m, 'v> {
             Ok(half) => Ok(half as u16),
             Err(refused) => Err(refused),
         }
+    }
+
+    #[inline(always)]
+    fn fetch_both(&self, at: u64) -> Option<(u16, u16)> {
+        both_halves(self.memory, self.view, at)
     }
 }

@@ -1,9 +1,10 @@
+use Rattle.address_view.specs.Windows.{see}
 use Rattle.address_view.proofs.MarkedLemmas.{page_missing, shows_something}
 use Rattle.std.proofs.Common.{sym}
 use Rattle.address_view.proofs.store.page_seen.Goals as goal
 
 pub unreachable-requires : goal.unreachable-requires
-unreachable-requires c = shows_something _ _ _ c.requires (sym c.in-None.ensures)
+unreachable-requires c = shows_something (see c.args.view.now) c.args.memory.now c.args.at c.requires (sym c.in-None.ensures)
 
 pub unreachable-requires-in-None-page_at : goal.unreachable-requires-in-None-page_at
-unreachable-requires-in-None-page_at c = page_missing _ _ _ _ c.requires (sym c.in-Some.ensures) c.in-None-page_at.ensures
+unreachable-requires-in-None-page_at c = page_missing (see c.args.view.now) c.args.memory.now c.args.at _ c.requires (sym c.in-Some.ensures) c.in-None-page_at.ensures
