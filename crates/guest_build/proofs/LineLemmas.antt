@@ -7,15 +7,16 @@ use Rattle.std.specs.List.{slice_split, onto_first}
 use Rattle.std.specs.Str.Lines.{lines, lines_of_parts}
 use Rattle.std.proofs.lemmas.List.{drop_more, drop_all}
 use Rattle.std.specs.Str.{bytes_eq}
-use Rattle.guest_build.specs.Faults.{Place as FaultPlace, on_line, Fails, fault_on, Stops}
+use Rattle.uh_base.specs.Answers.{Stops, kind_of}
+use Rattle.guest_build.specs.Faults.{Place as FaultPlace, on_line, fault_on, fault_of}
 use Rattle.guest_build.specs.Lines.{line_of}
 use Rattle.guest_build.specs.Places.{grown, extent_of, found, labelled, place_in, nothing_yet, origins_of}
 use Rattle.guest_build.specs.Layout.{Sections}
 use Rattle.guest_build.specs.Assembled.{with_line, sections_from, image_from, image_in}
 use Rattle.guest_build.specs.Views.{or_else}
 use Rattle.guest_build.specs.declared.fault.AsmKind.{AsmKind}
-use Rattle.guest_build.specs.declared.fault.Fault.{Fault}
-use Rattle.guest_build.specs.declared.fault.Fault.TheVariants as inner
+use Rattle.uh_base.specs.declared.fault.Fault.{Fault}
+use Rattle.uh_base.specs.declared.fault.Fault.TheVariants as inner
 use Rattle.guest_build.specs.declared.places.Extent.{Extent}
 use Rattle.guest_build.specs.declared.places.Origins.{Origins}
 use Rattle.guest_build.specs.declared.places.Place.{Place}
@@ -87,7 +88,7 @@ sections-nil : (origins : Origins) (find : List ℕ → Option Place) (n : ℕ) 
 unfolding sections_from
 sections-nil origins find n before = refl
 
-stops_at : (n : ℕ) (fault : Fault) (judged : Result Sections AsmKind) (f : Sections → Result Sections FaultPlace) → Fails fault judged → Stops (fault_on n fault) (on_line n judged f)
+stops_at : (n : ℕ) (fault : Fault AsmKind) (judged : Result Sections AsmKind) (f : Sections → Result Sections FaultPlace) → Stops (kind_of fault) judged → Stops (fault_of (fault_on n fault)) (on_line n judged f)
 stops_at n inner.Memory judged f h = tt
 stops_at n (inner.Kind kind) judged f h = rw h refl
 
@@ -100,7 +101,7 @@ module _ (origins : Origins) (find : List ℕ → Option Place) (lines : List (B
       → sections_from origins find (i + 1 + 1) after (left lines (i + 1)) ≡ whole
   sections_goes_on after h = rw h at turn
 
-  pub sections_fails : (fault : Fault) → Fails fault (with_line origins find (i + 1) before (line_of (get_or lines i d).now)) → Stops (fault_on (i + 1) fault) whole
+  pub sections_fails : (fault : Fault AsmKind) → Stops (kind_of fault) (with_line origins find (i + 1) before (line_of (get_or lines i d).now)) → Stops (fault_of (fault_on (i + 1) fault)) whole
   sections_fails fault h = rw turn at (stops_at (i + 1) fault _ (λ after. sections_from origins find (i + 1 + 1) after (left lines (i + 1))) h)
 
 pub sections_end : (origins : Origins) (find : List ℕ → Option Place) (lines : List (Bor (List ℕ))) (i n : ℕ) (before : Sections) → length lines ≤ i

@@ -9,7 +9,7 @@ use Rattle.uh_base.specs.Numbers.{are_digits, value_of, digits_number, is_prefix
 use Rattle.uh_base.specs.Guid.{read_of}
 use Rattle.uh_base.specs.declared.guid.Guid.{Guid as AnyGuid}
 use Rattle.rv_decode.specs.declared.insn.Op.{Op}
-use Rattle.guest_build.specs.Faults.{◌>>=◌}
+use Rattle.uh_base.specs.Answers.{◌>>=◌}
 use Rattle.guest_build.specs.Numbers.{positive, negative, by_sign, number_in}
 use Rattle.guest_build.specs.Texts.{is_blank, trimmed, outside, behind_first}
 use Rattle.guest_build.specs.Operands.{is_label}

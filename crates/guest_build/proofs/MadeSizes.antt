@@ -11,7 +11,7 @@ use Rattle.rv_decode.specs.declared.insn.Insn.{Insn}
 use Rattle.rv_decode.specs.declared.insn.Op.{Op}
 use Rattle.base_reloc.specs.Sites.{width_of}
 use Rattle.guest_build.specs.Codes.{offset_of, if_fits, imm_of, with_imm, word_bytes, upper_insn, lower_insn, pair_bytes, li_bytes, wrapped_distance, is_near, la_bytes, is_width, number_bytes, zero_bytes, units, bytes_at}
-use Rattle.guest_build.specs.Faults.{◌>>=◌}
+use Rattle.uh_base.specs.Answers.{◌>>=◌}
 use Rattle.guest_build.specs.Layout.{site_at}
 use Rattle.guest_build.specs.Numbers.{wrapped, is_between, is_signed, is_data}
 use Rattle.guest_build.specs.Places.{most, sum, is_base, is_subsystem, is_alignment, zeros_in, size_of, is_moved}

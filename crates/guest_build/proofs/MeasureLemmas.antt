@@ -4,7 +4,7 @@ use Rattle.std.proofs.lemmas.List.{take_all, take_rest, take-append-le, map-appe
 use Rattle.std.specs.Prelude.{nat_lt, Option, Result, Ok, Err}
 use Rattle.guest_build.specs.Assembled.{here_in, sections_put}
 use Rattle.guest_build.specs.Codes.{bytes_at}
-use Rattle.guest_build.specs.Faults.{◌>>=◌}
+use Rattle.uh_base.specs.Answers.{◌>>=◌}
 use Rattle.guest_build.specs.Layout.{Content, Sections, layout_of, is_large, site_at, content_with, text_with, data_with, sections_with}
 use Rattle.guest_build.specs.Places.{round_up, sum, alignment_in}
 use Rattle.guest_build.specs.Measures.{IsRun, IsMeasure, size_with}

@@ -1,6 +1,8 @@
 -- The table of base relocations is read as its sites.
 use Rattle.std.proofs.Common.{◌≡◌, ℕ, suc, ◌+◌, ◌-◌, ◌*◌, ◌/◌, ◌%◌, ◌^◌, ◌<◌, ◌≤◌, ◌&&◌, Bool, true, false, not, cond, ltb, eqb, List, [], ◌∷◌, ◌++◌, length, map, drop, Some, None, Ok, refl, sym, ap, ◌∙◌, append_assoc, length-append, All, arith, inl, inr}
 use Rattle.std.proofs.lemmas.Bool.{cases_Bool}
+use Rattle.std.proofs.lemmas.Bool.Decides.{nat_tests}
+use Rattle.std.specs.Prelude.{nat_le, if◌then◌else◌}
 use Rattle.std.proofs.lemmas.List.{length-drop, append-nil}
 use Rattle.std.proofs.lemmas.List.Folds.{list_any-append}
 use Rattle.std.proofs.lemmas.List.Sums.{prefix_len-le-length}
@@ -13,8 +15,6 @@ use Rattle.base_reloc.specs.Kept.{kept_with, kind_of, type_in, offset_in, sites_
 use Rattle.base_reloc.specs.Sites.{width_of, meets}
 use Rattle.base_reloc.specs.declared.site.Site.{Site as ReadSite}
 use Rattle.base_reloc.specs.declared.entry.EntryKind.TheVariants.{Moved}
-use Rattle.base_reloc.proofs.MarkLemmas.{width_low}
-use Rattle.base_reloc.proofs.BlockLemmas.{parts_next, parts_end}
 use Rattle.guest_build.specs.Relocations.{page_of, type_of, is_on, entry_bytes, block_header, padding, table_behind, table_of}
 use Rattle.guest_build.specs.Read.{kind_read, site_read}
 use Rattle.guest_build.specs.declared.relocation.Site.{Site}
@@ -36,9 +36,13 @@ Ascend size from (site ∷ others) = (from ≤ site.at) × Ascend size (end_of s
 abbrev IsFree : ℕ → List ReadSite → Type 0
 IsFree from kept = (at width : ℕ) → from ≤ at → list_any (meets at width) kept ≡ false
 
+width_low : (kind : SiteKind) → 4 ≤ width_of (kind_read kind)
+width_low kinds.High20 = omega arith
+width_low kinds.Dir64 = omega arith
+
 pub ascend : (size from : ℕ) (sites : List Site) → Ascend size from sites → from + 4 * length sites ≤ size
 ascend size from [] h = omega arith
-ascend size from (site ∷ others) h = omega (arith, ascend size (end_of site) others h.1, width_low (kind_read site.kind))
+ascend size from (site ∷ others) h = omega (arith, ascend size (end_of site) others h.1, width_low site.kind)
 
 free_more : (from : ℕ) (kept : List ReadSite) (site : Site) → from ≤ site.at → IsFree from kept → IsFree (end_of site) (kept ++ site_read site ∷ [])
 free_more from kept site low free at width high =
@@ -112,7 +116,20 @@ block_is table at block page size f is_page is_size wide even inside =
 length-header : (page count : ℕ) → length (block_header page count) ≡ 8
 length-header page count = length-append (low_bytes 4 (page * 4096)) (low_bytes 4 (8 + 2 * (count + count % 2))) ∙ rw (length-low_bytes 4 (page * 4096), length-low_bytes 4 (8 + 2 * (count + count % 2))) refl
 
-module _ (size : ℕ) (small : size ≤ 1048576) (table : List ℕ) where
+-- the blocks of a table follow each other, as a law says
+abbrev Follow : List ℕ → Type 0
+Follow table = (at block : ℕ) → parts_from table at block ≡ (if nat_le (length table) at then [] else with_block table at block (parts_from table))
+
+abbrev pub BlocksFollow : Type 0
+BlocksFollow = (table : List ℕ) → Follow table
+
+module _ (size : ℕ) (small : size ≤ 1048576) (table : List ℕ) (blocks : Follow table) where
+  parts_next : (at block : ℕ) → at < length table → parts_from table at block ≡ with_block table at block (parts_from table)
+  parts_next at block below = let under : nat_le (length table) at ≡ false = grind (arith, nat_tests) in rw under at (blocks at block)
+
+  parts_end : (at block : ℕ) → length table ≤ at → parts_from table at block ≡ []
+  parts_end at block over = let none : nat_le (length table) at ≡ true = grind (arith, nat_tests) in rw none at (blocks at block)
+
   entry_read : (from : ℕ) (kept : List ReadSite) (i page at n : ℕ) (site : Site) (rest : List ℕ) (parts : List Part) → IsFree from kept → from ≤ site.at → end_of site ≤ size → page_of site ≡ page
       → drop at table ≡ entry_bytes site ++ rest
       → sites_from size kept i (entries_at table (page * 4096) at (suc n) ++ parts) ≡ sites_from size (kept ++ site_read site ∷ []) (i + 1) (entries_at table (page * 4096) (at + 2) n ++ parts)
@@ -152,7 +169,7 @@ module _ (size : ℕ) (small : size ≤ 1048576) (table : List ℕ) where
       let size_is : u32_at table (at + 4) ≡ bytes = u32_there table rest (at + 4) bytes (omega arith) behind in
       let entries : (bytes - 8) / 2 ≡ suc more = omega arith in
       let onward : at + bytes ≡ at + 8 + 2 + 2 * more = omega arith in
-      let first = parts_next table at block (omega arith) ∙ block_is table at block (page * 4096) bytes (parts_from table) page_is size_is (omega arith) (omega arith) (omega arith) in
+      let first = parts_next at block (omega arith) ∙ block_is table at block (page * 4096) bytes (parts_from table) page_is size_is (omega arith) (omega arith) (omega arith) in
       ap (sites_from size kept i) first
       ∙ rw (entries, onward) (entry_read from kept i page (at + 8) more site (table_behind (Some page) true others) (parts_from table (at + 8 + 2 + 2 * more) (block + 1)) free asc.0 (omega arith) refl entry
       ∙ reads_others (end_of site) (kept ++ site_read site ∷ []) (i + 1) page (at + 8 + 2) (block + 1) true (free_more from kept site asc.0 free) asc.1 next
@@ -165,7 +182,7 @@ module _ (size : ℕ) (small : size ≤ 1048576) (table : List ℕ) where
       let over : length table ≤ at + 2 * bit odd = omega (arith, ap length there, length-drop at table, length-padding odd) in
       rw (left_all page odd)
       (padding_read kept i (page * 4096) at odd [] (parts_from table (at + 2 * bit odd) block) (there ∙ sym (append-nil (padding odd)))
-      ∙ ap (sites_from size kept (i + bit odd)) (parts_end table (at + 2 * bit odd) block over) ∙ ap Ok (sym (append-nil kept)))
+      ∙ ap (sites_from size kept (i + bit odd)) (parts_end (at + 2 * bit odd) block over) ∙ ap Ok (sym (append-nil kept)))
   reads (site ∷ others) from kept i page at block odd free asc e = elim (cases_Bool (is_on (Some page) site)) [
     | inl on ↦
         let more : ℕ = left page (not odd) others in
@@ -199,8 +216,8 @@ pub ascending : (size : ℕ) (sites : List Site) → AreIn size sites → Ascend
 ascending size sites h = ascends size 0 sites h (omega arith) (λ k d below. omega arith)
 
 -- the table of ascending sites is read as these sites
-pub ascending_kept : (size : ℕ) (sites : List Site) → Ascend size 0 sites → size ≤ 2 ^ 20 → sites_from size [] 0 (parts_of (table_of sites)) ≡ Ok (map site_read sites)
+pub ascending_kept : BlocksFollow → (size : ℕ) (sites : List Site) → Ascend size 0 sites → size ≤ 2 ^ 20 → sites_from size [] 0 (parts_of (table_of sites)) ≡ Ok (map site_read sites)
 unfolding table_of table_behind parts_at sites_from
-ascending_kept size [] h small = refl
-ascending_kept size (site ∷ others) h small =
-    block_read size small (table_of (site ∷ others)) site others 0 [] 0 0 0 (reads size small (table_of (site ∷ others)) others) (λ at width low. refl) h (behind_off None false site others refl)
+ascending_kept blocks size [] h small = refl
+ascending_kept blocks size (site ∷ others) h small =
+    block_read size small (table_of (site ∷ others)) (blocks (table_of (site ∷ others))) site others 0 [] 0 0 0 (reads size small (table_of (site ∷ others)) (blocks (table_of (site ∷ others))) others) (λ at width low. refl) h (behind_off None false site others refl)

@@ -1,11 +1,12 @@
 -- Putting one thing behind another.
 use Rattle.std.proofs.Common.{◌≡◌, List, ◌++◌, Result, Ok, Err, ℕ, refl, sym, ap, ◌∙◌, append_assoc}
-use Rattle.guest_build.specs.Faults.{◌>>=◌, behind, Puts}
+use Rattle.uh_base.specs.Answers.{◌>>=◌}
+use Rattle.guest_build.specs.Faults.{behind, Puts}
 use Rattle.guest_build.specs.declared.fault.AsmKind.{AsmKind}
-use Rattle.guest_build.specs.declared.fault.Fault.{Fault}
-use Rattle.guest_build.specs.declared.fault.Fault.TheVariants as inner
+use Rattle.uh_base.specs.declared.fault.Fault.{Fault}
+use Rattle.uh_base.specs.declared.fault.Fault.TheVariants as inner
 
-pub puts_both : {X : Type 0} (result : Result X Fault) (old mid new : List ℕ) (one other : Result (List ℕ) AsmKind)
+pub puts_both : {X : Type 0} (result : Result X (Fault AsmKind)) (old mid new : List ℕ) (one other : Result (List ℕ) AsmKind)
     → behind old one ≡ Ok mid → Puts result mid new other → Puts result old new (one >>= λ a. other >>= λ b. Ok (a ++ b))
 puts_both result old mid new (Err kind) other h k = cc
 puts_both (Ok x) old mid new (Ok a) (Err kind) h k = cc

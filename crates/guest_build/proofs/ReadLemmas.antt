@@ -9,7 +9,6 @@ use Rattle.pe_image.specs.ImageOf.{Fields, signature_at, section_header_checks, 
 use Rattle.pe_image.specs.declared.fault.PeFault.{PeFault}
 use Rattle.pe_image.specs.declared.fault.PeFault.TheVariants as faults
 use Rattle.pe_image.specs.declared.image.Section.{Section}
-use Rattle.pe_image.proofs.CheckLemmas.{passed}
 use Rattle.guest_build.specs.Image.{raw_size, data_raw, reloc_raw, directory_at, file_of, image_of}
 use Rattle.guest_build.specs.Layout.{Sections, Layout, layout_of, has_sites}
 use Rattle.guest_build.specs.Places.{section_count, round_up, file_alignment}
@@ -33,6 +32,15 @@ none = record { all = refl }
 
 one_more : (good : Bool) (fault : PeFault) (checks : List Check) → good ≡ true → Pass checks → Pass (check good fault ∷ checks)
 one_more good fault checks h rest = record { all = rw h rest.all }
+
+-- checks behind those that pass decide
+passed : {X Y : Type 0} (first others : List Check) (x : X) (y z : Y) → judged first y ≡ Ok z → judged (first ++ others) x ≡ judged others x
+passed [] others x y z h = refl
+passed (c ∷ cs) others x y z h =
+    elim (cases_Bool c.passes) [
+      | inl passes ↦ rw passes (passed cs others x y z (rw passes at h))
+      | inr fails ↦ absurd (let e : Err c.fault ≡ Ok z = rw fails at h in cc)
+    ]
 
 both : (first others : List Check) → Pass first → Pass others → Pass (first ++ others)
 both first others h k = record { all = passed first others tt tt tt h.all ∙ k.all }

@@ -6,9 +6,8 @@ use Rattle.std.specs.Prelude.{codes}
 use Rattle.std.specs.List.{slice_range, find}
 use Rattle.std.proofs.lemmas.Bool.{le-leb, lt-ltb, le-ltb, ne_eqb, eqb-true}
 use Rattle.uh_base.specs.LittleEndian.{low_bytes}
-use Rattle.pe_image.specs.Placed.{placed_byte, copies_to}
+use Rattle.pe_image.specs.Placed.{placed_byte, copies_to, in_pages}
 use Rattle.pe_image.specs.declared.image.Section.{Section}
-use Rattle.pe_image.proofs.PlaceLemmas.{pages_hold}
 use Rattle.base_reloc.specs.Kept.{sites_in}
 use Rattle.guest_build.specs.Image.{padded, raw_bytes, raw_size, data_raw, reloc_raw, directory_at, dos_header, coff_header, standard_fields, windows_fields, directories, read, write, execute, section_header, section_header_if, section_table, headers_of, file_of, image_of}
 use Rattle.guest_build.specs.Layout.{Sections, Layout, layout_of, sites_of, has_sites}
@@ -17,7 +16,7 @@ use Rattle.guest_build.specs.Read.{IsPlaced, section_of, sections_read, fields_r
 use Rattle.guest_build.specs.Relocations.{place_of, placed, table_behind, table_of}
 use Rattle.guest_build.specs.declared.relocation.Site.{Site}
 use Rattle.guest_build.proofs.LowLemmas.{length-low_bytes}
-use Rattle.guest_build.proofs.PartLemmas.{Ascend, ascend, ascending, ascending_kept}
+use Rattle.guest_build.proofs.PartLemmas.{BlocksFollow, Ascend, ascend, ascending, ascending_kept}
 use Rattle.guest_build.proofs.Sound.{AreIn, end_of, IsSound, IsLaidOut}
 
 -- ---- all sites ascend
@@ -163,7 +162,8 @@ table_there entry all out placed is =
           let empty = eqb-true (length layout.table) 0 none in
           rw none (slice_is placed layout.table 0 (omega arith) (λ k below. absurd (omega arith)))
       | inr some ↦
-          let room : layout.reloc_from + length layout.table ≤ length placed = omega (arith, pages_hold layout.size) in
+          let whole : layout.size ≤ in_pages layout.size = omega arith in
+          let room : layout.reloc_from + length layout.table ≤ length placed = omega (arith, whole) in
           rw some (slice_is placed layout.table layout.reloc_from room (λ k below. is.bytes (layout.reloc_from + k) (omega arith) ∙ table_byte entry all out k below))
     ]
 
@@ -173,8 +173,8 @@ table_is : (all : Sections) → (layout_of all).table ≡ table_of (sites_of (la
 unfolding layout_of
 table_is all = refl
 
-pub sites_in_are : (entry : ℕ) (all : Sections) → IsSound entry all → IsLaidOut all → (placed : List ℕ) → IsPlaced (fields_read entry (layout_of all) all) (image_of entry all) placed
+pub sites_in_are : BlocksFollow → (entry : ℕ) (all : Sections) → IsSound entry all → IsLaidOut all → (placed : List ℕ) → IsPlaced (fields_read entry (layout_of all) all) (image_of entry all) placed
     → sites_in (fields_read entry (layout_of all) all) placed ≡ Ok (map site_read (sites_of (layout_of all).text_from (layout_of all).data_from all))
 unfolding sites_in fields_read
-sites_in_are entry all sound out placed is =
-    rw (table_there entry all out placed is, table_is all) (ascending_kept (layout_of all).size _ (all_ascend all sound.text_sites sound.data_sites out) out.size)
+sites_in_are blocks entry all sound out placed is =
+    rw (table_there entry all out placed is, table_is all) (ascending_kept blocks (layout_of all).size _ (all_ascend all sound.text_sites sound.data_sites out) out.size)

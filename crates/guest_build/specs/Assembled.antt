@@ -1,7 +1,8 @@
 -- The image of a text, or the first thing that is wrong with it.
 use Rattle.std.specs.Prelude.{ℕ, ◌+◌, ◌||◌, Bool, false, List, [], ◌∷◌, length, codes, Option, Some, None, Result, Ok, Err, nat_lt, if◌then◌else◌}
 use Rattle.std.specs.Str.Lines.{lines}
-use Rattle.guest_build.specs.Faults.{◌>>=◌, Place as FaultPlace, on_line}
+use Rattle.uh_base.specs.Answers.{◌>>=◌}
+use Rattle.guest_build.specs.Faults.{Place as FaultPlace, on_line}
 use Rattle.guest_build.specs.Lines.{line_of}
 use Rattle.guest_build.specs.Places.{is_set, found, extent_of, nothing_yet, origins_of, at_origin}
 use Rattle.guest_build.specs.Codes.{offset_of, bytes_at}

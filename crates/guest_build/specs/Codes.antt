@@ -10,7 +10,7 @@ use Rattle.rv_decode.specs.Encoded.{encoded}
 use Rattle.rv_decode.specs.declared.insn.Insn.{Insn}
 use Rattle.rv_decode.specs.declared.insn.Op.{Op}
 use Rattle.rv_decode.specs.declared.insn.Op.TheVariants as ops
-use Rattle.guest_build.specs.Faults.{◌>>=◌}
+use Rattle.uh_base.specs.Answers.{◌>>=◌}
 use Rattle.guest_build.specs.Numbers.{value_of, wrapped, is_between, is_signed, is_data}
 use Rattle.guest_build.specs.Statements.{insn}
 use Rattle.guest_build.specs.Places.{most, sum, at_origin, is_base, is_subsystem, is_alignment}

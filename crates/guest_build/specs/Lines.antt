@@ -1,7 +1,7 @@
 -- What a line says: a label, and a statement behind it.
 use Rattle.std.specs.Prelude.{ℕ, ◌+◌, ◌==◌, false, List, length, take, drop, Some, None, Result, Ok, Err, nat_lt, if◌then◌else◌}
 use Rattle.std.specs.List.{position_or_len}
-use Rattle.guest_build.specs.Faults.{◌>>=◌}
+use Rattle.uh_base.specs.Answers.{◌>>=◌}
 use Rattle.guest_build.specs.Texts.{is_blank, trimmed, outside}
 use Rattle.guest_build.specs.Operands.{is_label}
 use Rattle.guest_build.specs.Words.{word_of}

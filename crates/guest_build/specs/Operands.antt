@@ -4,7 +4,7 @@ use Rattle.std.specs.List.{list_all}
 use Rattle.std.specs.Str.{bytes_eq}
 use Rattle.uh_base.specs.Names.{is_name}
 use Rattle.rv_decode.specs.Texts.{register_names}
-use Rattle.guest_build.specs.Faults.{◌>>=◌}
+use Rattle.uh_base.specs.Answers.{◌>>=◌}
 use Rattle.guest_build.specs.Texts.{trimmed, cut, behind_first, before_last}
 use Rattle.guest_build.specs.Numbers.{number_in}
 use Rattle.guest_build.specs.declared.fault.AsmKind.{AsmKind}

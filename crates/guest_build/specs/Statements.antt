@@ -5,7 +5,7 @@ use Rattle.uh_base.specs.declared.guid.Guid.{Guid as AnyGuid}
 use Rattle.rv_decode.specs.declared.insn.Insn.{Insn}
 use Rattle.rv_decode.specs.declared.insn.Op.{Op}
 use Rattle.rv_decode.specs.declared.insn.Op.TheVariants as ops
-use Rattle.guest_build.specs.Faults.{◌>>=◌}
+use Rattle.uh_base.specs.Answers.{◌>>=◌}
 use Rattle.guest_build.specs.Numbers.{number_in, zero_number}
 use Rattle.guest_build.specs.Operands.{two, three, register, label, nothing, low, upper, high, based, quoted}
 use Rattle.guest_build.specs.declared.fault.AsmKind.{AsmKind}

@@ -3,9 +3,9 @@ use Rattle.std.specs.Prelude.{◌≡◌, ℕ, List, Option, Some, None, Result, 
 use Rattle.std.specs.Str.{bytes_eq}
 use Rattle.std.specs.BTreeMap.{get_by_text}
 use Rattle.guest_build.specs.declared.labels.Labels.{Labels}
-use Rattle.guest_build.specs.Faults.{Fails}
+use Rattle.uh_base.specs.Answers.{Stops, kind_of}
 use Rattle.guest_build.specs.declared.fault.AsmKind.{AsmKind}
-use Rattle.guest_build.specs.declared.fault.Fault.{Fault}
+use Rattle.uh_base.specs.declared.fault.Fault.{Fault}
 use Rattle.guest_build.specs.declared.places.Place.{Place}
 use Rattle.guest_build.specs.declared.sections.Content as code_content
 use Rattle.guest_build.specs.declared.sections.Sections as code
@@ -36,9 +36,9 @@ abbrev pub frame_of : Layout → Frame
 frame_of l = record { alignment = l.alignment; headers = l.headers; text_from = l.text_from; data_from = l.data_from; reloc_from = l.reloc_from; size = l.size }
 
 -- What is changed becomes what judging gives, unless memory runs out.
-abbrev pub Makes : {A X : Type 0} → Result X Fault → (new : A) → Result A AsmKind → Type 0
+abbrev pub Makes : {A X : Type 0} → Result X (Fault AsmKind) → (new : A) → Result A AsmKind → Type 0
 Makes (Ok done) new judged = judged ≡ Ok new
-Makes (Err e) new judged = Fails e judged
+Makes (Err e) new judged = Stops (kind_of e) judged
 
 -- a layout by its numbers and the bytes of .reloc
 abbrev pub drawn : Frame → List ℕ → Layout

@@ -1,7 +1,8 @@
 //! Assembling a text.
 ghost use Rattle.std.specs.Prelude.{◌≡◌, ◌<◌, ◌-◌, ◌^◌, ℕ, List, length, map, None, IfOk, OnOk};
 ghost use Rattle.std.specs.Str.Lines.{lines};
-ghost use Rattle.guest_build.specs.Faults.{Reads, fault_on};
+ghost use Rattle.uh_base.specs.Answers.{Reads};
+ghost use Rattle.guest_build.specs.Faults.{fault_of, fault_on};
 ghost use Rattle.guest_build.specs.Places.{extent_of, nothing_yet, found, labelled};
 ghost use Rattle.guest_build.specs.Lines.{line_of};
 ghost use Rattle.guest_build.specs.Layout.{no_sections};
@@ -120,7 +121,7 @@ fn sections_from(
     lines: &[&str],
 ) -> Result<Sections, AsmFault>
     requires { length lines.now < 2 ^ 32 - 1 }
-    ensures { Reads sections_of result (sections_from origins.now (places_in labels.now) 1 no_sections (map (λ line. line.now) lines.now)) }
+    ensures { Reads fault_of sections_of result (sections_from origins.now (places_in labels.now) 1 no_sections (map (λ line. line.now) lines.now)) }
 {
     let mut all = Sections::new(alloc);
     let mut measure = Measure::new();
@@ -142,7 +143,7 @@ fn image_from(
     lines: &[&str],
 ) -> Result<Vec<u8>, AsmFault>
     requires { length lines.now < 2 ^ 32 - 1 }
-    ensures { Reads (λ image. image.items) result (image_from origins.now (places_in labels.now) (map (λ line. line.now) lines.now)) }
+    ensures { Reads fault_of (λ image. image.items) result (image_from origins.now (places_in labels.now) (map (λ line. line.now) lines.now)) }
 {
     let entry = match offset_of(origins, labels, "start") {
         Ok(entry) => entry,
@@ -161,7 +162,7 @@ fn image_from(
 /// The image of lines.
 fn image_in(alloc: Global, lines: &[&str]) -> Result<Vec<u8>, AsmFault>
     requires { length lines.now < 2 ^ 32 - 1 }
-    ensures { Reads (λ image. image.items) result (image_in (map (λ line. line.now) lines.now)) }
+    ensures { Reads fault_of (λ image. image.items) result (image_in (map (λ line. line.now) lines.now)) }
 {
     match surveyed(alloc, lines) {
         Ok(survey) => {
@@ -178,7 +179,7 @@ fn image_in(alloc: Global, lines: &[&str]) -> Result<Vec<u8>, AsmFault>
 #[tactic(auto, unfolding(crate::specs::Assembled::assembled))]
 pub fn assemble(alloc: Global, text: &str) -> Result<Vec<u8>, AsmFault>
     requires { length text.now < 2 ^ 32 - 1 }
-    ensures { Reads (λ image. image.items) result (assembled text.now) }
+    ensures { Reads fault_of (λ image. image.items) result (assembled text.now) }
 {
     match lines_of(alloc, text) {
         Ok(lines) => image_in(alloc, lines.as_slice()),

@@ -1,6 +1,6 @@
 //! The bytes of statements.
 ghost use Rattle.std.specs.Prelude.{◌≡◌, ◌++◌, OnOk, Ok, Err, if◌then◌else◌};
-ghost use Rattle.guest_build.specs.declared.fault.Fault.TheVariants.{Kind};
+ghost use Rattle.uh_base.specs.declared.fault.Fault.TheVariants.{Kind};
 ghost use Rattle.guest_build.specs.declared.fault.AsmKind.TheVariants.{Range};
 ghost use Rattle.guest_build.specs.Faults.{Puts};
 ghost use Rattle.guest_build.specs.Views.{places_in};

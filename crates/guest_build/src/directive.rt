@@ -1,6 +1,6 @@
 //! What directives say, and all words.
 ghost use Rattle.std.specs.Prelude.{◌≡◌};
-ghost use Rattle.guest_build.specs.Faults.{Gives};
+ghost use Rattle.uh_base.specs.Answers.{Reads, kind_of};
 ghost use Rattle.guest_build.specs.Statements.{numbered, dword, ascii16, guid, saying};
 
 use crate::fault::{AsmKind, Fault};
@@ -16,7 +16,7 @@ use uh_base::{Guid, Text};
 /// `.dword`: a number, or a label.
 #[tactic(auto, unfolding(crate::specs::Statements::dword))]
 fn dword(alloc: Global, text: &str) -> Result<Statement, Fault>
-    ensures { Gives (λ statement. statement) result (dword text.now) }
+    ensures { Reads kind_of (λ statement. statement) result (dword text.now) }
 {
     match number_in(text) {
         Ok(value) => Ok(Statement::Number { width: 8, value }),
@@ -30,7 +30,7 @@ fn dword(alloc: Global, text: &str) -> Result<Statement, Fault>
 /// `.ascii16`.
 #[tactic(auto, unfolding(crate::specs::Statements::ascii16))]
 fn ascii16(alloc: Global, text: &str) -> Result<Statement, Fault>
-    ensures { Gives (λ statement. statement) result (ascii16 text.now) }
+    ensures { Reads kind_of (λ statement. statement) result (ascii16 text.now) }
 {
     let inside = quoted(text)?;
     Ok(Statement::Ascii16(Text::new(alloc, inside)?))
@@ -66,7 +66,7 @@ fn numbered(word: Word, text: &str) -> Result<Statement, AsmKind>
 /// What a word and its operands say.
 #[tactic(auto, unfolding(crate::specs::Statements::saying))]
 pub fn saying(alloc: Global, word: Word, text: &str) -> Result<Statement, Fault>
-    ensures { Gives (λ statement. statement) result (saying word text.now) }
+    ensures { Reads kind_of (λ statement. statement) result (saying word text.now) }
 {
     match word {
         Word::Instruction(op, shape) => instruction::instruction(alloc, op, shape, text),

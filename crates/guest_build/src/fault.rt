@@ -1,8 +1,6 @@
 //! What can be wrong with a text.
 ghost use Rattle.std.specs.Prelude.{◌≡◌};
-ghost use Rattle.guest_build.specs.declared.fault.Fault.TheVariants.{Memory, Kind};
-
-use std::alloc::{AllocError, AllocFailed};
+ghost use Rattle.uh_base.specs.declared.fault.Fault.TheVariants.{Kind};
 
 /// What is wrong with a line. Of several the first in this order is told.
 #[derive(Clone, Copy, Debug, PartialEq, Eq)]
@@ -49,32 +47,12 @@ pub enum AsmFault {
 }
 
 /// What is wrong with one line, or no memory.
-#[derive(Clone, Copy, Debug, PartialEq, Eq)]
-pub(crate) enum Fault {
-    Kind(AsmKind),
-    Memory,
-}
+pub(crate) type Fault = uh_base::Fault<AsmKind>;
 
 impl From<AsmKind> for Fault {
     ghost from_gives = { λ kind e. e ≡ Kind kind };
 
     fn from(kind: AsmKind) -> Fault {
         Fault::Kind(kind)
-    }
-}
-
-impl From<AllocError> for Fault {
-    ghost from_gives = { λ _ e. e ≡ Memory };
-
-    fn from(_error: AllocError) -> Fault {
-        Fault::Memory
-    }
-}
-
-impl<T: Drop> From<AllocFailed<T>> for Fault {
-    ghost from_gives = { λ _ e. e ≡ Memory };
-
-    fn from(_error: AllocFailed<T>) -> Fault {
-        Fault::Memory
     }
 }

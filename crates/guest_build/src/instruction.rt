@@ -1,6 +1,6 @@
 //! What a word and its operands say.
 ghost use Rattle.std.specs.Prelude.{◌≡◌};
-ghost use Rattle.guest_build.specs.Faults.{Gives};
+ghost use Rattle.uh_base.specs.Answers.{Reads, kind_of};
 ghost use Rattle.guest_build.specs.Statements.{insn, plain, registers, immediate, shift, offset, store, branch, upper_of, lui, jump, bare, instruction, li, la, mv, nop, ret, jump_by, jr, zero_branch};
 
 use crate::fault::{AsmKind, Fault};
@@ -53,7 +53,7 @@ fn registers(op: Op, text: &str) -> Result<Statement, AsmKind>
 /// `rd, rs1` and a number of 12 bits or `%lo(label)`.
 #[tactic(auto, unfolding(crate::specs::Statements::immediate))]
 fn immediate(alloc: Global, op: Op, text: &str) -> Result<Statement, Fault>
-    ensures { Gives (λ statement. statement) result (immediate op text.now) }
+    ensures { Reads kind_of (λ statement. statement) result (immediate op text.now) }
 {
     let (first, second, third) = three(text)?;
     let rd = register(first)?;
@@ -83,7 +83,7 @@ fn shift(op: Op, text: &str) -> Result<Statement, AsmKind>
 /// `rd, offset(rs1)`.
 #[tactic(auto, unfolding(crate::specs::Statements::offset))]
 fn offset(alloc: Global, op: Op, text: &str) -> Result<Statement, Fault>
-    ensures { Gives (λ statement. statement) result (offset op text.now) }
+    ensures { Reads kind_of (λ statement. statement) result (offset op text.now) }
 {
     let (first, second) = two(text)?;
     let rd = register(first)?;
@@ -97,7 +97,7 @@ fn offset(alloc: Global, op: Op, text: &str) -> Result<Statement, Fault>
 /// `rs2, offset(rs1)`.
 #[tactic(auto, unfolding(crate::specs::Statements::store))]
 fn store(alloc: Global, op: Op, text: &str) -> Result<Statement, Fault>
-    ensures { Gives (λ statement. statement) result (store op text.now) }
+    ensures { Reads kind_of (λ statement. statement) result (store op text.now) }
 {
     let (first, second) = two(text)?;
     let rs2 = register(first)?;
@@ -111,7 +111,7 @@ fn store(alloc: Global, op: Op, text: &str) -> Result<Statement, Fault>
 /// `rs1, rs2, label`.
 #[tactic(auto, unfolding(crate::specs::Statements::branch))]
 fn branch(alloc: Global, op: Op, text: &str) -> Result<Statement, Fault>
-    ensures { Gives (λ statement. statement) result (branch op text.now) }
+    ensures { Reads kind_of (λ statement. statement) result (branch op text.now) }
 {
     let (first, second, third) = three(text)?;
     let rs1 = register(first)?;
@@ -141,7 +141,7 @@ fn upper_of(op: Op, text: &str) -> Result<Statement, AsmKind>
 /// `rd` and a field of 20 bits or `%hi(label)`.
 #[tactic(auto, unfolding(crate::specs::Statements::lui))]
 fn lui(alloc: Global, op: Op, text: &str) -> Result<Statement, Fault>
-    ensures { Gives (λ statement. statement) result (lui op text.now) }
+    ensures { Reads kind_of (λ statement. statement) result (lui op text.now) }
 {
     let (first, second) = two(text)?;
     let rd = register(first)?;
@@ -155,7 +155,7 @@ fn lui(alloc: Global, op: Op, text: &str) -> Result<Statement, Fault>
 /// `rd, label`.
 #[tactic(auto, unfolding(crate::specs::Statements::jump))]
 fn jump(alloc: Global, op: Op, text: &str) -> Result<Statement, Fault>
-    ensures { Gives (λ statement. statement) result (jump op text.now) }
+    ensures { Reads kind_of (λ statement. statement) result (jump op text.now) }
 {
     let (first, second) = two(text)?;
     let rd = register(first)?;
@@ -179,7 +179,7 @@ fn bare(op: Op, text: &str) -> Result<Statement, AsmKind>
 /// An instruction of the manual.
 #[tactic(auto, unfolding(crate::specs::Statements::instruction))]
 pub fn instruction(alloc: Global, op: Op, shape: Shape, text: &str) -> Result<Statement, Fault>
-    ensures { Gives (λ statement. statement) result (instruction op shape text.now) }
+    ensures { Reads kind_of (λ statement. statement) result (instruction op shape text.now) }
 {
     match shape {
         Shape::Registers => Ok(registers(op, text)?),
@@ -209,7 +209,7 @@ pub fn li(text: &str) -> Result<Statement, AsmKind>
 /// `la rd, label`.
 #[tactic(auto, unfolding(crate::specs::Statements::la))]
 pub fn la(alloc: Global, text: &str) -> Result<Statement, Fault>
-    ensures { Gives (λ statement. statement) result (la text.now) }
+    ensures { Reads kind_of (λ statement. statement) result (la text.now) }
 {
     let (first, second) = two(text)?;
     let rd = register(first)?;
@@ -252,7 +252,7 @@ pub fn ret(text: &str) -> Result<Statement, AsmKind>
 /// `j label` and `call label`, which are `jal zero, label` and `jal ra, label`.
 #[tactic(auto, unfolding(crate::specs::Statements::jump_by))]
 pub fn jump_by(alloc: Global, rd: u8, text: &str) -> Result<Statement, Fault>
-    ensures { Gives (λ statement. statement) result (jump_by rd text.now) }
+    ensures { Reads kind_of (λ statement. statement) result (jump_by rd text.now) }
 {
     let target = label(text)?;
     let target = Text::new(alloc, target)?;
@@ -274,7 +274,7 @@ pub fn jr(text: &str) -> Result<Statement, AsmKind>
 /// `beqz rs1, label` and `bnez rs1, label`, which compare with `zero`.
 #[tactic(auto, unfolding(crate::specs::Statements::zero_branch))]
 pub fn zero_branch(alloc: Global, op: Op, text: &str) -> Result<Statement, Fault>
-    ensures { Gives (λ statement. statement) result (zero_branch op text.now) }
+    ensures { Reads kind_of (λ statement. statement) result (zero_branch op text.now) }
 {
     let (first, second) = two(text)?;
     let rs1 = register(first)?;

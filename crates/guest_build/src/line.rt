@@ -1,6 +1,6 @@
 //! What a line says.
 ghost use Rattle.std.specs.Prelude.{◌≡◌, IfOk};
-ghost use Rattle.guest_build.specs.Faults.{Gives};
+ghost use Rattle.uh_base.specs.Answers.{Reads, kind_of};
 ghost use Rattle.guest_build.specs.Lines.{uncommented, said, statement_of, labelled, line_in, line_of};
 
 use crate::directive::saying;
@@ -25,7 +25,7 @@ fn uncommented(line: &str) -> &str
 /// What a word and its operands say.
 #[tactic(auto, unfolding(crate::specs::Lines::said))]
 fn said(alloc: Global, text: &str) -> Result<Statement, Fault>
-    ensures { Gives (λ statement. statement) result (said text.now) }
+    ensures { Reads kind_of (λ statement. statement) result (said text.now) }
 {
     let end = word_end(text.as_bytes());
     let (word, operands) = text.split_at(end);

@@ -1,7 +1,7 @@
 //! Operands, each without the blanks around it.
 ghost use Rattle.std.specs.Prelude.{◌≡◌, ◌<◌, ◌+◌, ◌≤◌, map, length};
 ghost use Rattle.std.specs.List.{list_all};
-ghost use Rattle.guest_build.specs.Faults.{Gives};
+ghost use Rattle.uh_base.specs.Answers.{Reads, kind_of};
 ghost use Rattle.guest_build.specs.Texts.{seen, seen_two, seen_three};
 ghost use Rattle.guest_build.specs.Operands.{two, three, register_from, register, begins_with_digit, is_label, label, nothing, around, in_parentheses, is_part, the_word, part, low, upper, high, low_based, number_based, based, is_plain, plain_text, quoted};
 
@@ -151,7 +151,7 @@ fn part<'a>(word: &str, text: &'a str) -> Result<&'a str, AsmKind>
 /// A number of 12 bits, or `%lo(label)`.
 #[tactic(auto, unfolding(crate::specs::Operands::low))]
 pub fn low(alloc: Global, text: &str) -> Result<Operand, Fault>
-    ensures { Gives (λ operand. operand) result (low text.now) }
+    ensures { Reads kind_of (λ operand. operand) result (low text.now) }
 {
     if is_part(text) {
         let name = part("%lo", text)?;
@@ -173,7 +173,7 @@ pub fn upper(text: &str) -> Result<Operand, AsmKind>
 /// A field of 20 bits, or `%hi(label)`.
 #[tactic(auto, unfolding(crate::specs::Operands::high))]
 pub fn high(alloc: Global, text: &str) -> Result<Operand, Fault>
-    ensures { Gives (λ operand. operand) result (high text.now) }
+    ensures { Reads kind_of (λ operand. operand) result (high text.now) }
 {
     if is_part(text) {
         let name = part("%hi", text)?;
@@ -186,7 +186,7 @@ pub fn high(alloc: Global, text: &str) -> Result<Operand, Fault>
 /// `%lo(label)(register)`.
 #[tactic(auto, unfolding(crate::specs::Operands::low_based))]
 fn low_based(alloc: Global, text: &str) -> Result<(Operand, u8), Fault>
-    ensures { Gives (λ place. place) result (low_based text.now) }
+    ensures { Reads kind_of (λ place. place) result (low_based text.now) }
 {
     let (before, inside, behind) = around(text)?;
     the_word("%lo", before)?;
@@ -210,7 +210,7 @@ fn number_based(text: &str) -> Result<(Operand, u8), AsmKind>
 /// An offset with its base in parentheses.
 #[tactic(auto, unfolding(crate::specs::Operands::based))]
 pub fn based(alloc: Global, text: &str) -> Result<(Operand, u8), Fault>
-    ensures { Gives (λ place. place) result (based text.now) }
+    ensures { Reads kind_of (λ place. place) result (based text.now) }
 {
     if is_part(text) {
         return low_based(alloc, text);

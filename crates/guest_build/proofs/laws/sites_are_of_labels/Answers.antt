@@ -7,4 +7,4 @@ pub returns : goal.returns
 returns c = λ text placed entry all made small is.
     let fits = filled_in entry all small in
     let holds = sound text entry all made fits (laid_out all fits) in
-    sites_in_are entry all holds.1 holds.0 placed is
+    sites_in_are c.blocks_follow_each_other.ensures entry all holds.1 holds.0 placed is
