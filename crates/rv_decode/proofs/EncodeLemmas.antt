@@ -36,7 +36,7 @@ pub in_table : (i : ℕ) (r : code.Row) → slice_get ROWS i ≡ Some r → slic
 in_table i r g = ap (λ rs. slice_get rs i) (sym rows-are) ∙ listed ROWS i r g
 
 -- the format of a name, from the code's row
-pub format_is : (op : Op) (r : code.Row) → slice_get ROWS (place_of op) ≡ Some r → r.5 ≡ format_of op
+pub format_is : (op : Op) (r : code.Row) → slice_get ROWS (place_of op) ≡ Some r → r.format ≡ format_of op
 unfolding format_of
 format_is op r g = sym (ap format_in (in_table (place_of op) r g))
 
@@ -68,39 +68,39 @@ unfolding rows
 unexcluded ops.Lui = refl
 unexcluded op = refl
 
-name_packs : (insn : Insn) (r : code.Row) (w : ℕ) → slice_get ROWS (place_of insn.op) ≡ Some r → w ≡ packed r.5 r.1 insn → fits insn ≡ true → Packs r.5 r.0 r.1 w insn
+name_packs : (insn : Insn) (r : code.Row) (w : ℕ) → slice_get ROWS (place_of insn.op) ≡ Some r → w ≡ packed r.format r.value insn → fits insn ≡ true → Packs r.format r.mask r.value w insn
 unfolding fits
 name_packs insn r w g e h =
     let at = in_table (place_of insn.op) r g in
-    let parts = and_split (r.6 == 4) _ (ap is_long (sym at) ∙ long insn.op) in
-    let range : in_range r.5 insn ≡ true = ap (λ f. in_range f insn) (format_is insn.op r g) ∙ h in
-    packs r.5 insn r.0 r.1 w parts.1 range e
+    let parts = and_split (r.length == 4) _ (ap is_long (sym at) ∙ long insn.op) in
+    let range : in_range r.format insn ≡ true = ap (λ f. in_range f insn) (format_is insn.op r g) ∙ h in
+    packs r.format insn r.mask r.value w parts.1 range e
 
-pub is_encoded : (insn : Insn) (r : code.Row) (w : ℕ) → slice_get ROWS (place_of insn.op) ≡ Some r → w ≡ packed r.5 r.1 insn → w ≡ encoded insn
+pub is_encoded : (insn : Insn) (r : code.Row) (w : ℕ) → slice_get ROWS (place_of insn.op) ≡ Some r → w ≡ packed r.format r.value insn → w ≡ encoded insn
 unfolding encoded
 is_encoded insn r w g e = e ∙ sym (ap (λ row. word_in row insn) (in_table (place_of insn.op) r g))
 
-pub encodes : (insn : Insn) (r : code.Row) (w : ℕ) → slice_get ROWS (place_of insn.op) ≡ Some r → w ≡ packed r.5 r.1 insn → fits insn ≡ true
+pub encodes : (insn : Insn) (r : code.Row) (w : ℕ) → slice_get ROWS (place_of insn.op) ≡ Some r → w ≡ packed r.format r.value insn → fits insn ≡ true
     → decoded (w % 2 ^ 16) (w / 2 ^ 16) ≡ Some (insn, 4)
 encodes insn r w g e h =
     let at = in_table (place_of insn.op) r g in
-    let parts = and_split (r.6 == 4) _ (ap is_long (sym at) ∙ long insn.op) in
-    let len : r.6 ≡ 4 = eqb-true _ _ parts.0 in
-    let name : Some r.4 ≡ Some insn.op = ap names (sym at) ∙ named insn.op in
-    let op : r.4 ≡ insn.op = cc in
+    let parts = and_split (r.length == 4) _ (ap is_long (sym at) ∙ long insn.op) in
+    let len : r.length ≡ 4 = eqb-true _ _ parts.0 in
+    let name : Some r.op ≡ Some insn.op = ap names (sym at) ∙ named insn.op in
+    let op : r.op ≡ insn.op = cc in
     let but : (row_of r).but ≡ [] = ap excludes (sym at) ∙ unexcluded insn.op in
     let p = name_packs insn r w g e h in
     let same : w % 2 ^ 16 + 2 ^ 16 * (w / 2 ^ 16) ≡ w = omega arith in
-    let is : bit_and w r.0 == r.1 ≡ true = eq-eqb _ _ p.bits in
+    let is : bit_and w r.mask == r.value ≡ true = eq-eqb _ _ p.bits in
     let holds : holds_row (row_of r) w ≡ true = both _ _ is (ap (λ ps. holds_none ps w) but) in
-    let fields : reads_of r.5 r.4 w ≡ insn = ap (λ o. reads_of r.5 o w) op ∙ p.reads in
+    let fields : reads_of r.format r.op w ≡ insn = ap (λ o. reads_of r.format o w) op ∙ p.reads in
     means_decoded _ _ insn 4 (
       place_of insn.op,
       row_of r,
       record {
         listed = at;
         holds = ap (holds_row (row_of r)) same ∙ holds;
-        fields = sym (ap (reads_of r.5 r.4) same ∙ fields);
+        fields = sym (ap (reads_of r.format r.op) same ∙ fields);
         length = sym len;
       },
     )
@@ -210,9 +210,9 @@ row_for op = (_, refl)
 
 fit_meant : (insn : Insn) → fits insn ≡ true → HasWord insn
 fit_meant insn h =
-    let r = row_for insn.op in
-    let w = packed r.0.5 r.0.1 insn in
-    (w, (name_packs insn r.0 w r.1 refl h).below, encodes insn r.0 w r.1 refl h)
+    let row = row_for insn.op in
+    let w = packed row.0.format row.0.value insn in
+    (w, (name_packs insn row.0 w row.1 refl h).below, encodes insn row.0 w row.1 refl h)
 
 pub fits_exactly : FitsExactly
 fits_exactly insn = (fit_meant insn, meant_fits insn)

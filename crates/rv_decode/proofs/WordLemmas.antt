@@ -20,7 +20,7 @@ row_of_op op = (_, refl)
 pub words_decode : WordsDecode
 words_decode insn h =
     let row = row_of_op insn.op in
-    let word = packed row.0.5 row.0.1 insn in
+    let word = packed row.0.format row.0.value insn in
     rw (is_encoded insn row.0 word row.1 refl) at (encodes insn row.0 word row.1 refl h)
 
 word_fits : (op : Op) (rd rs1 rs2 : ℕ) (imm : ℤ) → encoded (record { op = op; rd = rd; rs1 = rs1; rs2 = rs2; imm = imm }) < 4294967296

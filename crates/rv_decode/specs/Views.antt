@@ -5,11 +5,17 @@ use Rattle.rv_decode.specs.declared.table.Row as code
 use Rattle.rv_decode.specs.declared.table.Pattern as pattern
 
 abbrev pub pattern_of : pattern.Pattern → Pattern
-pattern_of p = record { mask = p.0; value = p.1 }
+pattern_of p = record { mask = p.mask; value = p.value }
 
 abbrev pub excluded : Option pattern.Pattern → List Pattern
 excluded None = []
 excluded (Some p) = pattern_of p ∷ []
 
 abbrev pub row_of : code.Row → Row
-row_of r = record { op = r.4; is = record { mask = r.0; value = r.1 }; but = excluded r.2 ++ excluded r.3; length = r.6; format = r.5 }
+row_of r = record {
+  op = r.op;
+  is = record { mask = r.mask; value = r.value };
+  but = excluded r.but ++ excluded r.nor;
+  length = r.length;
+  format = r.format;
+}

@@ -16,7 +16,7 @@ use crate::table::{FROM, Pattern, ROWS, Row, TO};
 fn is_met(pattern: Pattern, word: u32) -> bool
     ensures { result ≡ holds (pattern_of pattern) word }
 {
-    word & pattern.0 == pattern.1
+    word & pattern.mask == pattern.value
 }
 
 #[inline(always)]
@@ -33,7 +33,7 @@ fn is_excluded(pattern: Option<Pattern>, word: u32) -> bool
 fn row_holds(row: &Row, word: u32) -> bool
     ensures { result ≡ holds_row (row_of row.now) word }
 {
-    word & row.0 == row.1 && !is_excluded(row.2, word) && !is_excluded(row.3, word)
+    word & row.mask == row.value && !is_excluded(row.but, word) && !is_excluded(row.nor, word)
 }
 
 /// The slot whose rows can hold of a word: by bits 6 to 2 and 14 to 12, or by bits 1, 0 and 15 to 13.
@@ -57,7 +57,7 @@ fn find(rows: &[Row], word: u32) -> Option<(Insn, u8)>
 {
     for row in rows {
         if row_holds(row, word) {
-            return Some((read(row.5, row.4, word), row.6));
+            return Some((read(row.format, row.op, word), row.length));
         }
     }
     None

@@ -167,7 +167,7 @@ pub fn encode(insn: Insn) -> u32
     ensures means { decoded (result % 2 ^ 16) (result / 2 ^ 16) ≡ Some (insn, 4) }
 {
     let row = row_of_name(insn.op);
-    pack(row.5, row.1, insn)
+    pack(row.format, row.value, insn)
 }
 
 /// An instruction fits exactly where some word of 32 bits means it.

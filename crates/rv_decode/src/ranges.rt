@@ -63,6 +63,6 @@ impl Insn {
         ensures { result ≡ fits self.now }
     {
         let row = row_of_name(self.op);
-        in_range(row.5, *self)
+        in_range(row.format, *self)
     }
 }

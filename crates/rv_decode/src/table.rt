@@ -76,259 +76,195 @@ pub(crate) enum Format {
     CrAdd,
 }
 
-/// A test of a word's bits: those of the mask, which is first, have the value.
+/// A test of a word's bits: those of the mask have the value.
 #[derive(Clone, Copy, Drop)]
-pub(crate) struct Pattern(pub(crate) u32, pub(crate) u32);
+pub(crate) struct Pattern {
+    pub(crate) mask: u32,
+    pub(crate) value: u32,
+}
 
-/// A row of the table: it holds where the bits of the mask, which is first, have the value, and neither of the two
-/// patterns is met. Then stand its name, its format and its length in bytes.
+/// A row of the table: it holds where the bits of the mask have the value, and neither of the two patterns is met.
 #[derive(Clone, Copy, Drop)]
-pub(crate) struct Row(
-    pub(crate) u32,
-    pub(crate) u32,
-    pub(crate) Option<Pattern>,
-    pub(crate) Option<Pattern>,
-    pub(crate) Op,
-    pub(crate) Format,
-    pub(crate) u8,
-);
+pub(crate) struct Row {
+    pub(crate) mask: u32,
+    pub(crate) value: u32,
+    pub(crate) but: Option<Pattern>,
+    pub(crate) nor: Option<Pattern>,
+    /// What the instruction is.
+    pub(crate) op: Op,
+    /// How it is read.
+    pub(crate) format: Format,
+    /// How many bytes it has.
+    pub(crate) length: u8,
+}
+
+/// A pattern that a row excludes.
+macro_rules! except {
+    ($mask:expr, $value:expr) => {
+        Some(Pattern {
+            mask: $mask,
+            value: $value,
+        })
+    };
+}
+
+macro_rules! row {
+    ($mask:expr, $value:expr, $op:ident, $format:ident, $length:expr, $but:expr, $nor:expr) => {
+        Row {
+            mask: $mask,
+            value: $value,
+            but: $but,
+            nor: $nor,
+            op: Op::$op,
+            format: Format::$format,
+            length: $length,
+        }
+    };
+}
+
+/// A row of 32 bits: its mask and value, what it is and its format.
+macro_rules! long {
+    ($mask:expr, $value:expr, $op:ident, $format:ident) => {
+        row!($mask, $value, $op, $format, 4, None, None)
+    };
+}
+
+/// A row of 16 bits likewise, with what it excludes behind them.
+macro_rules! half {
+    ($mask:expr, $value:expr, $op:ident, $format:ident) => {
+        row!($mask, $value, $op, $format, 2, None, None)
+    };
+    ($mask:expr, $value:expr, $op:ident, $format:ident, $but:expr) => {
+        row!($mask, $value, $op, $format, 2, $but, None)
+    };
+    ($mask:expr, $value:expr, $op:ident, $format:ident, $but:expr, $nor:expr) => {
+        row!($mask, $value, $op, $format, 2, $but, $nor)
+    };
+}
 
 /// The rows of 32 bits, at the numbers of their names, then those of 16 bits.
 pub(crate) static ROWS: [Row; 97] = [
     // Integer register-immediate instructions of U-type (2.4)
-    Row(0x7f, 0x37, None, None, Op::Lui, Format::U, 4),
-    Row(0x7f, 0x17, None, None, Op::Auipc, Format::U, 4),
+    long!(0x7f, 0x37, Lui, U),
+    long!(0x7f, 0x17, Auipc, U),
     // Unconditional jumps (2.5)
-    Row(0x7f, 0x6f, None, None, Op::Jal, Format::J, 4),
-    Row(0x707f, 0x67, None, None, Op::Jalr, Format::IOffset, 4),
+    long!(0x7f, 0x6f, Jal, J),
+    long!(0x707f, 0x67, Jalr, IOffset),
     // Conditional branches (2.5)
-    Row(0x707f, 0x63, None, None, Op::Beq, Format::B, 4),
-    Row(0x707f, 0x1063, None, None, Op::Bne, Format::B, 4),
-    Row(0x707f, 0x4063, None, None, Op::Blt, Format::B, 4),
-    Row(0x707f, 0x5063, None, None, Op::Bge, Format::B, 4),
-    Row(0x707f, 0x6063, None, None, Op::Bltu, Format::B, 4),
-    Row(0x707f, 0x7063, None, None, Op::Bgeu, Format::B, 4),
+    long!(0x707f, 0x63, Beq, B),
+    long!(0x707f, 0x1063, Bne, B),
+    long!(0x707f, 0x4063, Blt, B),
+    long!(0x707f, 0x5063, Bge, B),
+    long!(0x707f, 0x6063, Bltu, B),
+    long!(0x707f, 0x7063, Bgeu, B),
     // Loads (2.6 and 5.3)
-    Row(0x707f, 0x3, None, None, Op::Lb, Format::IOffset, 4),
-    Row(0x707f, 0x1003, None, None, Op::Lh, Format::IOffset, 4),
-    Row(0x707f, 0x2003, None, None, Op::Lw, Format::IOffset, 4),
-    Row(0x707f, 0x3003, None, None, Op::Ld, Format::IOffset, 4),
-    Row(0x707f, 0x4003, None, None, Op::Lbu, Format::IOffset, 4),
-    Row(0x707f, 0x5003, None, None, Op::Lhu, Format::IOffset, 4),
-    Row(0x707f, 0x6003, None, None, Op::Lwu, Format::IOffset, 4),
+    long!(0x707f, 0x3, Lb, IOffset),
+    long!(0x707f, 0x1003, Lh, IOffset),
+    long!(0x707f, 0x2003, Lw, IOffset),
+    long!(0x707f, 0x3003, Ld, IOffset),
+    long!(0x707f, 0x4003, Lbu, IOffset),
+    long!(0x707f, 0x5003, Lhu, IOffset),
+    long!(0x707f, 0x6003, Lwu, IOffset),
     // Stores (2.6 and 5.3)
-    Row(0x707f, 0x23, None, None, Op::Sb, Format::S, 4),
-    Row(0x707f, 0x1023, None, None, Op::Sh, Format::S, 4),
-    Row(0x707f, 0x2023, None, None, Op::Sw, Format::S, 4),
-    Row(0x707f, 0x3023, None, None, Op::Sd, Format::S, 4),
+    long!(0x707f, 0x23, Sb, S),
+    long!(0x707f, 0x1023, Sh, S),
+    long!(0x707f, 0x2023, Sw, S),
+    long!(0x707f, 0x3023, Sd, S),
     // Integer register-immediate instructions (2.4 and 5.2)
-    Row(0x707f, 0x13, None, None, Op::Addi, Format::I, 4),
-    Row(0xfc00707f, 0x1013, None, None, Op::Slli, Format::IShift, 4),
-    Row(0x707f, 0x2013, None, None, Op::Slti, Format::I, 4),
-    Row(0x707f, 0x3013, None, None, Op::Sltiu, Format::I, 4),
-    Row(0x707f, 0x4013, None, None, Op::Xori, Format::I, 4),
-    Row(0xfc00707f, 0x5013, None, None, Op::Srli, Format::IShift, 4),
-    Row(
-        0xfc00707f,
-        0x40005013,
-        None,
-        None,
-        Op::Srai,
-        Format::IShift,
-        4,
-    ),
-    Row(0x707f, 0x6013, None, None, Op::Ori, Format::I, 4),
-    Row(0x707f, 0x7013, None, None, Op::Andi, Format::I, 4),
+    long!(0x707f, 0x13, Addi, I),
+    long!(0xfc00707f, 0x1013, Slli, IShift),
+    long!(0x707f, 0x2013, Slti, I),
+    long!(0x707f, 0x3013, Sltiu, I),
+    long!(0x707f, 0x4013, Xori, I),
+    long!(0xfc00707f, 0x5013, Srli, IShift),
+    long!(0xfc00707f, 0x40005013, Srai, IShift),
+    long!(0x707f, 0x6013, Ori, I),
+    long!(0x707f, 0x7013, Andi, I),
     // The same on 32 bits (5.2)
-    Row(0x707f, 0x1b, None, None, Op::Addiw, Format::I, 4),
-    Row(
-        0xfe00707f,
-        0x101b,
-        None,
-        None,
-        Op::Slliw,
-        Format::IShiftWord,
-        4,
-    ),
-    Row(
-        0xfe00707f,
-        0x501b,
-        None,
-        None,
-        Op::Srliw,
-        Format::IShiftWord,
-        4,
-    ),
-    Row(
-        0xfe00707f,
-        0x4000501b,
-        None,
-        None,
-        Op::Sraiw,
-        Format::IShiftWord,
-        4,
-    ),
+    long!(0x707f, 0x1b, Addiw, I),
+    long!(0xfe00707f, 0x101b, Slliw, IShiftWord),
+    long!(0xfe00707f, 0x501b, Srliw, IShiftWord),
+    long!(0xfe00707f, 0x4000501b, Sraiw, IShiftWord),
     // Integer register-register instructions (2.4); those with funct7 1 multiply and divide (7.1 and 7.2)
-    Row(0xfe00707f, 0x33, None, None, Op::Add, Format::R, 4),
-    Row(0xfe00707f, 0x40000033, None, None, Op::Sub, Format::R, 4),
-    Row(0xfe00707f, 0x2000033, None, None, Op::Mul, Format::R, 4),
-    Row(0xfe00707f, 0x1033, None, None, Op::Sll, Format::R, 4),
-    Row(0xfe00707f, 0x2001033, None, None, Op::Mulh, Format::R, 4),
-    Row(0xfe00707f, 0x2033, None, None, Op::Slt, Format::R, 4),
-    Row(0xfe00707f, 0x2002033, None, None, Op::Mulhsu, Format::R, 4),
-    Row(0xfe00707f, 0x3033, None, None, Op::Sltu, Format::R, 4),
-    Row(0xfe00707f, 0x2003033, None, None, Op::Mulhu, Format::R, 4),
-    Row(0xfe00707f, 0x4033, None, None, Op::Xor, Format::R, 4),
-    Row(0xfe00707f, 0x2004033, None, None, Op::Div, Format::R, 4),
-    Row(0xfe00707f, 0x5033, None, None, Op::Srl, Format::R, 4),
-    Row(0xfe00707f, 0x40005033, None, None, Op::Sra, Format::R, 4),
-    Row(0xfe00707f, 0x2005033, None, None, Op::Divu, Format::R, 4),
-    Row(0xfe00707f, 0x6033, None, None, Op::Or, Format::R, 4),
-    Row(0xfe00707f, 0x2006033, None, None, Op::Rem, Format::R, 4),
-    Row(0xfe00707f, 0x7033, None, None, Op::And, Format::R, 4),
-    Row(0xfe00707f, 0x2007033, None, None, Op::Remu, Format::R, 4),
+    long!(0xfe00707f, 0x33, Add, R),
+    long!(0xfe00707f, 0x40000033, Sub, R),
+    long!(0xfe00707f, 0x2000033, Mul, R),
+    long!(0xfe00707f, 0x1033, Sll, R),
+    long!(0xfe00707f, 0x2001033, Mulh, R),
+    long!(0xfe00707f, 0x2033, Slt, R),
+    long!(0xfe00707f, 0x2002033, Mulhsu, R),
+    long!(0xfe00707f, 0x3033, Sltu, R),
+    long!(0xfe00707f, 0x2003033, Mulhu, R),
+    long!(0xfe00707f, 0x4033, Xor, R),
+    long!(0xfe00707f, 0x2004033, Div, R),
+    long!(0xfe00707f, 0x5033, Srl, R),
+    long!(0xfe00707f, 0x40005033, Sra, R),
+    long!(0xfe00707f, 0x2005033, Divu, R),
+    long!(0xfe00707f, 0x6033, Or, R),
+    long!(0xfe00707f, 0x2006033, Rem, R),
+    long!(0xfe00707f, 0x7033, And, R),
+    long!(0xfe00707f, 0x2007033, Remu, R),
     // The same on 32 bits (5.2, 7.1 and 7.2)
-    Row(0xfe00707f, 0x3b, None, None, Op::Addw, Format::R, 4),
-    Row(0xfe00707f, 0x4000003b, None, None, Op::Subw, Format::R, 4),
-    Row(0xfe00707f, 0x200003b, None, None, Op::Mulw, Format::R, 4),
-    Row(0xfe00707f, 0x103b, None, None, Op::Sllw, Format::R, 4),
-    Row(0xfe00707f, 0x200403b, None, None, Op::Divw, Format::R, 4),
-    Row(0xfe00707f, 0x503b, None, None, Op::Srlw, Format::R, 4),
-    Row(0xfe00707f, 0x4000503b, None, None, Op::Sraw, Format::R, 4),
-    Row(0xfe00707f, 0x200503b, None, None, Op::Divuw, Format::R, 4),
-    Row(0xfe00707f, 0x200603b, None, None, Op::Remw, Format::R, 4),
-    Row(0xfe00707f, 0x200703b, None, None, Op::Remuw, Format::R, 4),
+    long!(0xfe00707f, 0x3b, Addw, R),
+    long!(0xfe00707f, 0x4000003b, Subw, R),
+    long!(0xfe00707f, 0x200003b, Mulw, R),
+    long!(0xfe00707f, 0x103b, Sllw, R),
+    long!(0xfe00707f, 0x200403b, Divw, R),
+    long!(0xfe00707f, 0x503b, Srlw, R),
+    long!(0xfe00707f, 0x4000503b, Sraw, R),
+    long!(0xfe00707f, 0x200503b, Divuw, R),
+    long!(0xfe00707f, 0x200603b, Remw, R),
+    long!(0xfe00707f, 0x200703b, Remuw, R),
     // Memory ordering, environment calls and breakpoints (2.7 and 2.8)
-    Row(0x707f, 0xf, None, None, Op::Fence, Format::Fence, 4),
-    Row(0xffffffff, 0x73, None, None, Op::Ecall, Format::Whole, 4),
-    Row(
-        0xffffffff,
-        0x100073,
-        None,
-        None,
-        Op::Ebreak,
-        Format::Whole,
-        4,
-    ),
+    long!(0x707f, 0xf, Fence, Fence),
+    long!(0xffffffff, 0x73, Ecall, Whole),
+    long!(0xffffffff, 0x100073, Ebreak, Whole),
     // Quadrant 0 (table 16.5): C.ADDI4SPN, C.LW, C.LD, C.SW, C.SD
-    Row(
-        0xe003,
-        0x0,
-        Some(Pattern(0x1fe0, 0x0)),
-        None,
-        Op::Addi,
-        Format::Ciw,
-        2,
-    ),
-    Row(0xe003, 0x4000, None, None, Op::Lw, Format::ClLw, 2),
-    Row(0xe003, 0x6000, None, None, Op::Ld, Format::ClLd, 2),
-    Row(0xe003, 0xc000, None, None, Op::Sw, Format::CsSw, 2),
-    Row(0xe003, 0xe000, None, None, Op::Sd, Format::CsSd, 2),
+    half!(0xe003, 0x0, Addi, Ciw, except!(0x1fe0, 0x0)),
+    half!(0xe003, 0x4000, Lw, ClLw),
+    half!(0xe003, 0x6000, Ld, ClLd),
+    half!(0xe003, 0xc000, Sw, CsSw),
+    half!(0xe003, 0xe000, Sd, CsSd),
     // Quadrant 1 (table 16.6): C.NOP and C.ADDI, C.ADDIW, C.LI, C.ADDI16SP, C.LUI
-    Row(0xe003, 0x1, None, None, Op::Addi, Format::Ci, 2),
-    Row(
-        0xe003,
-        0x2001,
-        Some(Pattern(0xf80, 0x0)),
-        None,
-        Op::Addiw,
-        Format::Ci,
-        2,
-    ),
-    Row(0xe003, 0x4001, None, None, Op::Addi, Format::CiLi, 2),
-    Row(
-        0xef83,
-        0x6101,
-        Some(Pattern(0x107c, 0x0)),
-        None,
-        Op::Addi,
-        Format::CiSp,
-        2,
-    ),
-    Row(
+    half!(0xe003, 0x1, Addi, Ci),
+    half!(0xe003, 0x2001, Addiw, Ci, except!(0xf80, 0x0)),
+    half!(0xe003, 0x4001, Addi, CiLi),
+    half!(0xef83, 0x6101, Addi, CiSp, except!(0x107c, 0x0)),
+    half!(
         0xe003,
         0x6001,
-        Some(Pattern(0xf80, 0x100)),
-        Some(Pattern(0x107c, 0x0)),
-        Op::Lui,
-        Format::CiLui,
-        2,
+        Lui,
+        CiLui,
+        except!(0xf80, 0x100),
+        except!(0x107c, 0x0)
     ),
     // C.SRLI, C.SRAI, C.ANDI, C.SUB, C.XOR, C.OR, C.AND, C.SUBW, C.ADDW
-    Row(0xec03, 0x8001, None, None, Op::Srli, Format::CbShift, 2),
-    Row(0xec03, 0x8401, None, None, Op::Srai, Format::CbShift, 2),
-    Row(0xec03, 0x8801, None, None, Op::Andi, Format::CbAndi, 2),
-    Row(0xfc63, 0x8c01, None, None, Op::Sub, Format::Ca, 2),
-    Row(0xfc63, 0x8c21, None, None, Op::Xor, Format::Ca, 2),
-    Row(0xfc63, 0x8c41, None, None, Op::Or, Format::Ca, 2),
-    Row(0xfc63, 0x8c61, None, None, Op::And, Format::Ca, 2),
-    Row(0xfc63, 0x9c01, None, None, Op::Subw, Format::Ca, 2),
-    Row(0xfc63, 0x9c21, None, None, Op::Addw, Format::Ca, 2),
+    half!(0xec03, 0x8001, Srli, CbShift),
+    half!(0xec03, 0x8401, Srai, CbShift),
+    half!(0xec03, 0x8801, Andi, CbAndi),
+    half!(0xfc63, 0x8c01, Sub, Ca),
+    half!(0xfc63, 0x8c21, Xor, Ca),
+    half!(0xfc63, 0x8c41, Or, Ca),
+    half!(0xfc63, 0x8c61, And, Ca),
+    half!(0xfc63, 0x9c01, Subw, Ca),
+    half!(0xfc63, 0x9c21, Addw, Ca),
     // C.J, C.BEQZ, C.BNEZ
-    Row(0xe003, 0xa001, None, None, Op::Jal, Format::Cj, 2),
-    Row(0xe003, 0xc001, None, None, Op::Beq, Format::Cb, 2),
-    Row(0xe003, 0xe001, None, None, Op::Bne, Format::Cb, 2),
+    half!(0xe003, 0xa001, Jal, Cj),
+    half!(0xe003, 0xc001, Beq, Cb),
+    half!(0xe003, 0xe001, Bne, Cb),
     // Quadrant 2 (table 16.7): C.SLLI, C.LWSP, C.LDSP
-    Row(0xe003, 0x2, None, None, Op::Slli, Format::CiSlli, 2),
-    Row(
-        0xe003,
-        0x4002,
-        Some(Pattern(0xf80, 0x0)),
-        None,
-        Op::Lw,
-        Format::CiLwsp,
-        2,
-    ),
-    Row(
-        0xe003,
-        0x6002,
-        Some(Pattern(0xf80, 0x0)),
-        None,
-        Op::Ld,
-        Format::CiLdsp,
-        2,
-    ),
+    half!(0xe003, 0x2, Slli, CiSlli),
+    half!(0xe003, 0x4002, Lw, CiLwsp, except!(0xf80, 0x0)),
+    half!(0xe003, 0x6002, Ld, CiLdsp, except!(0xf80, 0x0)),
     // C.JR, C.MV, C.EBREAK, C.JALR, C.ADD
-    Row(
-        0xf07f,
-        0x8002,
-        Some(Pattern(0xf80, 0x0)),
-        None,
-        Op::Jalr,
-        Format::CrJr,
-        2,
-    ),
-    Row(
-        0xf003,
-        0x8002,
-        Some(Pattern(0x7c, 0x0)),
-        None,
-        Op::Add,
-        Format::CrMv,
-        2,
-    ),
-    Row(0xffff, 0x9002, None, None, Op::Ebreak, Format::Whole, 2),
-    Row(
-        0xf07f,
-        0x9002,
-        Some(Pattern(0xf80, 0x0)),
-        None,
-        Op::Jalr,
-        Format::CrJalr,
-        2,
-    ),
-    Row(
-        0xf003,
-        0x9002,
-        Some(Pattern(0x7c, 0x0)),
-        None,
-        Op::Add,
-        Format::CrAdd,
-        2,
-    ),
+    half!(0xf07f, 0x8002, Jalr, CrJr, except!(0xf80, 0x0)),
+    half!(0xf003, 0x8002, Add, CrMv, except!(0x7c, 0x0)),
+    half!(0xffff, 0x9002, Ebreak, Whole),
+    half!(0xf07f, 0x9002, Jalr, CrJalr, except!(0xf80, 0x0)),
+    half!(0xf003, 0x9002, Add, CrAdd, except!(0x7c, 0x0)),
     // C.SWSP, C.SDSP
-    Row(0xe003, 0xc002, None, None, Op::Sw, Format::CssSwsp, 2),
-    Row(0xe003, 0xe002, None, None, Op::Sd, Format::CssSdsp, 2),
+    half!(0xe003, 0xc002, Sw, CssSwsp),
+    half!(0xe003, 0xe002, Sd, CssSdsp),
 ];
 
 /// The first row of each slot. A slot of words of 32 bits has the number (bits 6 to 2) * 8 + (bits 14 to 12), and one of

@@ -214,6 +214,6 @@ impl Insn {
         ensures { IfOk result (λ s. string_bytes s ≡ text_of self.now) }
     {
         let row = row_of_name(self.op);
-        text_in(alloc, row.5, name(self.op), self)
+        text_in(alloc, row.format, name(self.op), self)
     }
 }
