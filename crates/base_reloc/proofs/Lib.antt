@@ -4,3 +4,4 @@ pub mod BlockLemmas
 pub mod SiteLemmas
 pub mod MoveLemmas
 pub mod LawLemmas
+pub mod EntriesLemmas

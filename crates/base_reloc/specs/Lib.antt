@@ -4,3 +4,4 @@ pub mod Kept
 pub mod Marks
 pub mod Steps
 pub mod Moved
+pub mod Laws

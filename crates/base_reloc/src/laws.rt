@@ -7,6 +7,7 @@ ghost use Rattle.base_reloc.specs.Sites.{AreSites, width_of};
 ghost use Rattle.base_reloc.specs.Blocks.{parts_from, with_block};
 ghost use Rattle.base_reloc.specs.Kept.{sites_in};
 ghost use Rattle.base_reloc.specs.Moved.{moved_word, sum};
+ghost use Rattle.base_reloc.specs.Laws.{SitesAreEntries, OtherBytesStay, Dir64Moves};
 ghost use Rattle.base_reloc.specs.declared.site.Site.{Site as AnySite};
 ghost use Rattle.base_reloc.specs.declared.site.SiteKind.{SiteKind as AnyKind};
 
@@ -28,4 +29,19 @@ pub fn moves_add()
 /// Moving by nothing changes no word.
 pub fn no_move_changes_nothing()
     ensures { (kind : AnyKind) (word : ℕ) → word < 2 ^ (8 * width_of kind) → moved_word kind word 0 ≡ Some word }
+{}
+
+/// The sites that are read are those of exactly the entries of types 3, 5 and 10, in order.
+pub fn sites_are_entries()
+    ensures { SitesAreEntries }
+{}
+
+/// A byte that no site has stays.
+pub fn other_bytes_stay()
+    ensures { OtherBytesStay }
+{}
+
+/// A word of 64 bits moves by the displacement, modulo 2^64.
+pub fn dir64_moves()
+    ensures { Dir64Moves }
 {}
