@@ -1,20 +1,18 @@
 -- The laws of the calls, and how many are kept.
-use Rattle.std.proofs.Common.{◌≡◌, ℕ, zero, suc, ◌+◌, ◌<◌, ◌≤◌, List, [], ◌∷◌, ◌++◌, map, length, refl, sym, ap, ◌∙◌, arith, Bool, true, false, length-append}
-use Rattle.std.specs.Prelude.{◌==◌, nat_le, Option, Some, None, if◌then◌else◌, slice_get, Result, Ok, Err}
+use Rattle.std.proofs.Common.{◌≡◌, ℕ, zero, suc, ◌+◌, ◌≤◌, List, [], ◌∷◌, ◌++◌, map, length, refl, sym, ap, arith, Bool, true, false, length-append}
+use Rattle.std.specs.Prelude.{◌==◌, Option, Some, None, if◌then◌else◌, slice_get, Ok, Err}
 use Rattle.std.specs.List.{filter}
-use Rattle.std.proofs.lemmas.List.{length-map}
-use Rattle.std.proofs.lemmas.Bool.{eqb-true, ne_eqb, lt-leb, cond-false, true≢false}
+use Rattle.std.proofs.lemmas.Bool.{eqb-true, ne_eqb, lt-leb}
 use Rattle.uh_base.specs.declared.guid.Guid.{Guid}
 use Rattle.event_queue.specs.declared.event.Event.{Event}
 use Rattle.event_queue.specs.declared.event.Entry.{Entry}
 use Rattle.event_queue.specs.declared.event.Notify.{Notify}
-use Rattle.event_queue.specs.declared.refusal.EventRefusal.{EventRefusal}
 use Rattle.event_queue.specs.declared.refusal.EventRefusal.TheVariants.{Invalid, Full}
 use Rattle.event_queue.specs.Kinds.{is_request}
-use Rattle.event_queue.specs.Queue.{EventList, Whole, Rising, shown, is_event, event_at, signalled, next_entry, notified, called, call_of, level_calls, falling, is_kept, kept_calls, signal_each}
-use Rattle.event_queue.specs.Timers.{first_moment, has_moment, moment_ahead, ticked, after_tick}
+use Rattle.event_queue.specs.Queue.{EventList, Whole, Rising, shown, is_event, signalled, next_entry, notified, called, call_of, level_calls, falling, is_kept, kept_calls}
+use Rattle.event_queue.specs.Timers.{has_moment, moment_ahead, ticked, after_tick}
 use Rattle.event_queue.specs.Calls.{creation, is_full, known, after_signal}
-use Rattle.event_queue.specs.Laws.{IsNextOf, IsAbove, NextIsAbove, IsNew, NumbersAreNew, SignalsAreCalls, TicksOnce}
+use Rattle.event_queue.specs.Laws.{IsNextOf, IsAbove, NextIsAbove, NumbersAreNew, SignalsAreCalls, TicksOnce}
 use Rattle.event_queue.proofs.Lists.{length_filtered, none_found}
 use Rattle.event_queue.proofs.Numbers.{rising_low}
 use Rattle.event_queue.proofs.Live.{high_is_none}
@@ -59,12 +57,12 @@ created s kind tpl function group number h = by (is_request kind tpl function gr
 
 pub numbers_are_new : NumbersAreNew
 numbers_are_new = λ s w kind tpl function group number h. (
-  let n = created s kind tpl function group number h in
-  record {
-    unknown = high_is_none 8 (shown s.made) number s.events w.rising (omega (arith, n));
-    above = λ i event g. (let l = number_up_to 8 (shown s.made) i s.events event w.rising g in omega (arith, n, l));
-    after = omega (arith, n);
-  })
+    let n = created s kind tpl function group number h in
+    record {
+      unknown = high_is_none 8 (shown s.made) number s.events w.rising (omega (arith, n));
+      above = λ i event g. (let l = number_up_to 8 (shown s.made) i s.events event w.rising g in omega (arith, n, l));
+      after = omega (arith, n);
+    })
 
 -- ---- signals
 

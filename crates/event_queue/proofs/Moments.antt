@@ -1,6 +1,6 @@
 -- Tick moments.
-use Rattle.std.proofs.Common.{◌≡◌, ℕ, zero, suc, ◌+◌, ◌-◌, ◌%◌, ◌^◌, ◌<◌, ◌≤◌, min, max, List, [], ◌∷◌, length, take, drop, get_or, refl, sym, ap, ◌∙◌, arith, Bool, true, false}
-use Rattle.std.specs.Prelude.{nat_le, take_while, Option, Some, None, if◌then◌else◌}
+use Rattle.std.proofs.Common.{◌≡◌, ℕ, suc, ◌+◌, ◌-◌, ◌%◌, ◌^◌, ◌<◌, ◌≤◌, min, max, List, [], ◌∷◌, length, take, drop, get_or, refl, sym, ap, ◌∙◌, arith, Bool, true, false}
+use Rattle.std.specs.Prelude.{nat_le, take_while, Some, None, if◌then◌else◌}
 use Rattle.std.specs.List.{find, prefix_len, IsAllAdjacentAnswer}
 use Rattle.std.specs.Ordering.{is_some_and, is_le, nat_cmp}
 use Rattle.std.specs.List.Sorted.{IsNonDecreasing}

@@ -13,8 +13,8 @@ use Rattle.event_queue.specs.declared.refusal.EventRefusal.TheVariants.{Invalid}
 use Rattle.event_queue.specs.Calls.{known, no_events}
 use Rattle.event_queue.specs.Kinds.{notifies, is_signal, is_wait, is_kind, is_level, can_notify, is_request}
 use Rattle.event_queue.specs.Timers.{with_timer, rewound, rewound_timer, is_due, stopped}
-use Rattle.event_queue.specs.Queue.{EventList, Whole, shown, Rising, EachOnce, is_number, is_entry, is_event, is_queued, event_at, entry_of, is_fresh, has_level, raised, lowered, raised_if, raise_one, lower_one, queue_one, without, is_entry_of}
-use Rattle.event_queue.proofs.Lists.{Only, none_found, any_found, any_found_some, place_none, place_some, any_here, only_mapped, only_filtered, only_passes, only_found, only_removed, all_left, any_left, all_filtered, length_filtered}
+use Rattle.event_queue.specs.Queue.{EventList, Whole, shown, EachOnce, is_number, is_entry, is_event, is_queued, event_at, entry_of, is_fresh, has_level, raised, lowered, raised_if, raise_one, lower_one, queue_one, without, is_entry_of}
+use Rattle.event_queue.proofs.Lists.{Only, any_found, any_found_some, place_none, place_some, any_here, only_mapped, only_filtered, only_passes, only_removed, all_left, any_left, all_filtered, length_filtered}
 use Rattle.event_queue.proofs.Numbers.{only_event, only_entry, rising_map, rising_set, rising_filter, rising_push, once_filter, once_push}
 use Rattle.event_queue.proofs.Live.{Alike, all_live_set, all_live_map, live_here, all_live_push, all_live_more, all_live_without, queued_is_event, high_is_none, few_queued, fresh_at, fresh_set, fresh_filter, fresh_fewer, fresh_none, fresh_more, fresh_map, fresh_push, level_set, level_map, level_more}
 

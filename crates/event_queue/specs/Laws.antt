@@ -1,5 +1,5 @@
 -- What the definitions come to.
-use Rattle.std.specs.Prelude.{ℕ, ◌≡◌, ◌<◌, ◌≤◌, ◌↔◌, IsTrue, true, false, List, slice_get, Option, Some, None, Result, Ok}
+use Rattle.std.specs.Prelude.{ℕ, ◌≡◌, ◌<◌, ◌≤◌, ◌↔◌, IsTrue, true, false, List, slice_get, Option, Some, None, Ok}
 use Rattle.uh_base.specs.declared.guid.Guid.{Guid}
 use Rattle.event_queue.specs.declared.event.Event.{Event}
 use Rattle.event_queue.specs.declared.event.Entry.{Entry}

@@ -1,5 +1,4 @@
-use Rattle.std.proofs.Common.{◌∙◌, sym, ap}
-use Rattle.event_queue.specs.Queue.{signal_each}
+use Rattle.std.proofs.Common.{◌∙◌, sym}
 use Rattle.event_queue.proofs.Signals.{each_here, each_over}
 use Rattle.event_queue.proofs.events.Events.signal_all.Goals as goal
 
