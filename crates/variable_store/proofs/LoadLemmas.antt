@@ -8,7 +8,8 @@ use Rattle.variable_store.specs.declared.fault.StoreFault.TheVariants.{At, Memor
 use Rattle.variable_store.specs.declared.reading.Header.{Header}
 use Rattle.variable_store.specs.Entries.{Entry, cost, room_of, place_of}
 use Rattle.variable_store.specs.Valid.{AreBelow, IsEntry, AreVariables}
-use Rattle.variable_store.specs.Reading.{units_in, entry, entries, IsHeader, FailsAt, ◌>>=◌}
+use Rattle.variable_store.specs.Reading.{units_in, entry, entries, named, IsHeader}
+use Rattle.uh_base.specs.Answers.{◌>>=◌, Stops}
 use Rattle.variable_store.proofs.NameLemmas.{or_false, none_named, apart_more}
 use Rattle.variable_store.proofs.SetLemmas.{room_is, each_more, is_none}
 
@@ -21,11 +22,11 @@ length_units n (low ∷ []) h = absurd (omega arith)
 length_units zero (low ∷ high ∷ bytes) h = absurd (omega arith)
 length_units (suc n) (low ∷ high ∷ bytes) h = let rest = length_units n bytes (omega arith) in omega arith
 
-pub loaded_valid : (before : List Entry) (head : Header) (bytes name payload : List ℕ) → AreVariables before → IsHeader head (room_of before)
-    → length bytes ≡ 2 * head.units → name ≡ units_in bytes → is_some (place_of before name head.vendor false) ≡ false → AreBelow (2 ^ 16) name → length payload ≡ head.size → AreBelow (2 ^ 8) payload
-    → AreVariables (before ++ record { vendor = head.vendor; name = name; attributes = head.attributes; payload = payload } ∷ [])
-loaded_valid before head bytes name payload valid limits long is none units size fits =
-    let new : Entry = record { vendor = head.vendor; name = name; attributes = head.attributes; payload = payload } in
+pub loaded_valid : (before : List Entry) (head : Header) (bytes name content : List ℕ) → AreVariables before → IsHeader head (room_of before)
+    → length bytes ≡ 2 * head.units → name ≡ units_in bytes → is_some (place_of before name head.vendor false) ≡ false → AreBelow (2 ^ 16) name → length content ≡ head.size → AreBelow (2 ^ 8) content
+    → AreVariables (before ++ record { vendor = head.vendor; name = name; attributes = head.attributes; «data» = content } ∷ [])
+loaded_valid before head bytes name content valid limits long is none units size fits =
+    let new : Entry = record { vendor = head.vendor; name = name; attributes = head.attributes; «data» = content } in
     let count : length name ≡ head.units = ap length is ∙ length_units head.units bytes long in
     let short = or_false (head.units == 0) (nat_lt 1024 head.units) limits.name in
     let one = short.0 in
@@ -52,7 +53,7 @@ one_read count turn size rest behind before e all h read so_far =
     rw read at next
 
 -- a variable is not read
-pub not_read : (fault : StoreFault) (count turn size : ℕ) (rest : List ℕ) (before : List Entry) (all : Result (List Entry) ℕ) → turn < count → FailsAt fault (entry size rest before) → entries (count - turn) size rest before ≡ all → FailsAt fault all
+pub not_read : (fault : StoreFault) (count turn size : ℕ) (rest : List ℕ) (before : List Entry) (all : Result (List Entry) ℕ) → turn < count → Stops (named fault) (entry size rest before) → entries (count - turn) size rest before ≡ all → Stops (named fault) all
 unfolding entries
 not_read Memory count turn size rest before all h fails so_far = tt
 not_read (At at) count turn size rest before all h fails so_far =

@@ -7,19 +7,20 @@ use Rattle.std.specs.Str.{bytes_eq}
 use Rattle.std.proofs.lemmas.Bool.Decides.{nat_tests}
 use Rattle.std.proofs.lemmas.Nat.{le_bytes_2, le_bytes_4}
 use Rattle.std.proofs.lemmas.Slice.Eq.{bytes_eq-Decides, text_from_reads}
-use Rattle.std.proofs.lemmas.List.{take-append-drop, length-take-le}
+use Rattle.std.proofs.lemmas.List.{take-append-drop, length-take-le, get_or_default}
 use Rattle.uh_base.specs.declared.guid.Guid.{Guid}
-use Rattle.uh_base.specs.Guid.{bytes_of}
-use Rattle.uh_base.proofs.GuidLemmas.{back}
+use Rattle.uh_base.specs.Guid.{bytes_of, guid_of}
+use Rattle.uh_base.specs.Answers.{◌>>=◌}
 use Rattle.variable_store.specs.declared.reading.Header.{Header}
 use Rattle.variable_store.specs.Entries.{Entry, room_of, place_of, is_non_volatile}
 use Rattle.variable_store.specs.Sets.{is_bad_name}
 use Rattle.variable_store.specs.Valid.{AreBelow}
 use Rattle.variable_store.specs.Store.{kept, unit_bytes, entry_bytes, store_of}
-use Rattle.variable_store.specs.Reading.{offset, field, number, guid, guid_in, units_in, guard, fits_attributes, fits_size, head, entry, entries, store_in, ◌>>=◌}
+use Rattle.variable_store.specs.Reading.{offset, field, number, guid, units_in, guard, fits_attributes, fits_size, head, entry, entries, store_in}
 use Rattle.variable_store.proofs.NameLemmas.{and_true}
 use Rattle.variable_store.proofs.LoadLemmas.{length_units}
 use Rattle.variable_store.proofs.SavedLemmas.{AllKept, regroup}
+use Rattle.variable_store.proofs.StoreLemmas.{BytesBack}
 
 -- a step that went well
 record Went {A B : Type 0} (r : Result A ℕ) (next : A → Result B ℕ) (y : B) : Type 0 where
@@ -96,24 +97,19 @@ number_takes size rest read all h =
 abbrev Each : List ℕ → Type 0
 Each bs = (i : ℕ) → get_or bs i 0 < 256
 
-guid_spelled : (bs : List ℕ) → length bs ≡ 16 → Each bs → bytes_of (guid_in bs) ≡ bs
-guid_spelled bs h all =
-    let cells : List ℕ = get_or bs 0 0 ∷ get_or bs 1 0 ∷ get_or bs 2 0 ∷ get_or bs 3 0 ∷ get_or bs 4 0 ∷ get_or bs 5 0 ∷ get_or bs 6 0 ∷ get_or bs 7 0 ∷ get_or bs 8 0 ∷ get_or bs 9 0 ∷ get_or bs 10 0 ∷ get_or bs 11 0 ∷ get_or bs 12 0 ∷ get_or bs 13 0 ∷ get_or bs 14 0 ∷ get_or bs 15 0 ∷ [] in
-    let same : bs ≡ cells = text_from_reads bs _ h (refl, (refl, (refl, (refl, (refl, (refl, (refl, (refl, (refl, (refl, (refl, (refl, (refl, (refl, (refl, (refl, tt)))))))))))))))) in
-    let each : Each cells = subst Each same all in
-    let there : bytes_of (guid_in cells) ≡ cells = back cells refl each _ _ _ _ refl refl refl refl in
-    subst (λ x. bytes_of (guid_in x) ≡ x) (sym same) there
+guid_spelled : BytesBack → (bs : List ℕ) → length bs ≡ 16 → Each bs → bytes_of (guid_of bs) ≡ bs
+guid_spelled back bs h all = back bs h (λ k d l. rw (get_or_default bs k d 0 l) (all k))
 
-guid_takes : (size : ℕ) (rest : List ℕ) (read : Guid × List ℕ) → AreBelow (2 ^ 8) rest → guid size rest ≡ Ok read → Takes rest (bytes_of read.0) read.1
+guid_takes : BytesBack → (size : ℕ) (rest : List ℕ) (read : Guid × List ℕ) → AreBelow (2 ^ 8) rest → guid size rest ≡ Ok read → Takes rest (bytes_of read.0) read.1
 unfolding guid
-guid_takes size rest read all h =
-    let w = went (field 16 size rest) (λ r. Ok (guid_in r.0, r.1)) read h in
+guid_takes back size rest read all h =
+    let w = went (field 16 size rest) (λ r. Ok (guid_of r.0, r.1)) read h in
     let f = field_takes 16 size rest w.value all w.first in
-    let t : Guid × List ℕ = (guid_in w.value.0, w.value.1) in
+    let t : Guid × List ℕ = (guid_of w.value.0, w.value.1) in
     let p : t ≡ read = ok_is t read w.second in
-    let g : guid_in w.value.0 ≡ read.0 = ap (λ x. x.0) p in
+    let g : guid_of w.value.0 ≡ read.0 = ap (λ x. x.0) p in
     let behind : w.value.1 ≡ read.1 = ap (λ x. x.1) p in
-    let spelled : bytes_of read.0 ≡ w.value.0 = ap bytes_of (sym g) ∙ guid_spelled w.value.0 f.long (by_place _ w.value.0 f.first (omega arith)) in
+    let spelled : bytes_of read.0 ≡ w.value.0 = ap bytes_of (sym g) ∙ guid_spelled back w.value.0 f.long (by_place _ w.value.0 f.first (omega arith)) in
     record { same = f.same ∙ ap (λ x. x ++ w.value.1) (sym spelled) ∙ ap (λ x. bytes_of read.0 ++ x) behind; below = subst (AreBelow (2 ^ 8)) behind f.below }
 
 units_spelled : (n : ℕ) (bytes : List ℕ) → length bytes ≡ 2 * n → AreBelow (2 ^ 8) bytes → unit_bytes (units_in bytes) ≡ bytes
@@ -135,11 +131,11 @@ record HeadTakes (rest : List ℕ) (h : Header) (behind : List ℕ) : Type 0 whe
 four_parts : (a b c d e p q r s : List ℕ) → a ≡ p ++ b → b ≡ q ++ c → c ≡ r ++ d → d ≡ s ++ e → a ≡ p ++ (q ++ (r ++ (s ++ e)))
 four_parts a b c d e p q r s i j k l = rw (i, j, k, l) refl
 
-head_takes : (size room : ℕ) (rest : List ℕ) (read : Header × List ℕ) → AreBelow (2 ^ 8) rest → head size rest room ≡ Ok read → HeadTakes rest read.0 read.1
+head_takes : BytesBack → (size room : ℕ) (rest : List ℕ) (read : Header × List ℕ) → AreBelow (2 ^ 8) rest → head size rest room ≡ Ok read → HeadTakes rest read.0 read.1
 unfolding head
-head_takes size room rest read all h =
+head_takes back size room rest read all h =
     let v = went (guid size rest) _ read h in
-    let vendor = guid_takes size rest v.value all v.first in
+    let vendor = guid_takes back size rest v.value all v.first in
     let a = went (number size v.value.1) _ read v.second in
     let attributes = number_takes size v.value.1 a.value vendor.below a.first in
     let fits = guarded (fits_attributes a.value.0) _ _ read a.second in
@@ -166,7 +162,7 @@ record EntryTakes (rest : List ℕ) (e : Entry) (behind : List ℕ) : Type 0 whe
 -- the bytes of a variable in front
 spelled : (rest : List ℕ) (h : Header) (b c d n p : List ℕ) → rest ≡ bytes_of h.vendor ++ (to_le_bytes w32 h.attributes ++ (to_le_bytes w32 h.units ++ (to_le_bytes w32 h.size ++ b)))
     → b ≡ n ++ c → c ≡ p ++ d → unit_bytes (units_in n) ≡ n → length (units_in n) ≡ h.units → length p ≡ h.size
-    → rest ≡ entry_bytes (record { vendor = h.vendor; name = units_in n; attributes = h.attributes; payload = p }) ++ d
+    → rest ≡ entry_bytes (record { vendor = h.vendor; name = units_in n; attributes = h.attributes; «data» = p }) ++ d
 unfolding entry_bytes
 spelled rest h b c d n p i j k name count long =
     let parts : rest ≡ bytes_of h.vendor ++ (to_le_bytes w32 h.attributes ++ (to_le_bytes w32 h.units ++ (to_le_bytes w32 h.size ++ (n ++ (p ++ d))))) = rw (i, j, k) refl in
@@ -176,21 +172,21 @@ spelled rest h b c d n p i j k name count long =
     ∙ ap (λ x. bytes_of h.vendor ++ (to_le_bytes w32 h.attributes ++ (to_le_bytes w32 (length (units_in n)) ++ (to_le_bytes w32 (length p) ++ (x ++ (p ++ d)))))) (sym name)
     ∙ sym group
 
-entry_takes : (size : ℕ) (before : List Entry) (rest : List ℕ) (read : Entry × List ℕ) → AreBelow (2 ^ 8) rest → entry size rest before ≡ Ok read → EntryTakes rest read.0 read.1
+entry_takes : BytesBack → (size : ℕ) (before : List Entry) (rest : List ℕ) (read : Entry × List ℕ) → AreBelow (2 ^ 8) rest → entry size rest before ≡ Ok read → EntryTakes rest read.0 read.1
 unfolding entry
-entry_takes size before rest read all h =
+entry_takes back size before rest read all h =
     let f = went (head size rest (room_of before)) _ read h in
-    let first = head_takes size (room_of before) rest f.value all f.first in
+    let first = head_takes back size (room_of before) rest f.value all f.first in
     let n = went (field (2 * f.value.0.units) size f.value.1) _ read f.second in
     let name = field_takes (2 * f.value.0.units) size f.value.1 n.value first.below n.first in
     let new = guarded (not (is_some (place_of before (units_in n.value.0) f.value.0.vendor false))) _ _ read n.second in
     let p = went (field f.value.0.size size n.value.1) _ read new.1 in
-    let payload = field_takes f.value.0.size size n.value.1 p.value name.below p.first in
-    let t : Entry × List ℕ = (record { vendor = f.value.0.vendor; name = units_in n.value.0; attributes = f.value.0.attributes; payload = p.value.0 }, p.value.1) in
+    let last = field_takes f.value.0.size size n.value.1 p.value name.below p.first in
+    let t : Entry × List ℕ = (record { vendor = f.value.0.vendor; name = units_in n.value.0; attributes = f.value.0.attributes; «data» = p.value.0 }, p.value.1) in
     let made : t ≡ read = ok_is t read p.second in
     let there : EntryTakes rest t.0 t.1 = record {
-      same = spelled rest f.value.0 f.value.1 n.value.1 p.value.1 n.value.0 p.value.0 first.same name.same payload.same (units_spelled f.value.0.units n.value.0 name.long name.first) (length_units f.value.0.units n.value.0 name.long) payload.long;
-      below = payload.below;
+      same = spelled rest f.value.0 f.value.1 n.value.1 p.value.1 n.value.0 p.value.0 first.same name.same last.same (units_spelled f.value.0.units n.value.0 name.long name.first) (length_units f.value.0.units n.value.0 name.long) last.long;
+      below = last.below;
       lasts = first.lasts;
     } in
     subst (λ x. EntryTakes rest x.0 x.1) made there
@@ -202,9 +198,9 @@ record EntriesTake (count : ℕ) (rest : List ℕ) (before all : List Entry) : T
   pub same : rest ≡ flat_map entry_bytes read
   pub last : AllKept read
 
-entries_take : (count size : ℕ) (rest : List ℕ) (before all : List Entry) → AreBelow (2 ^ 8) rest → entries count size rest before ≡ Ok all → EntriesTake count rest before all
+entries_take : BytesBack → (count size : ℕ) (rest : List ℕ) (before all : List Entry) → AreBelow (2 ^ 8) rest → entries count size rest before ≡ Ok all → EntriesTake count rest before all
 unfolding entries
-entries_take zero size rest before all fits h = by (length rest == 0) refl h
+entries_take back zero size rest before all fits h = by (length rest == 0) refl h
   where
     by : (b : Bool) → (length rest == 0) ≡ b → (if b then Ok before else Err (offset size rest)) ≡ Ok all → EntriesTake 0 rest before all
     by true e k =
@@ -216,10 +212,10 @@ entries_take zero size rest before all fits h = by (length rest == 0) refl h
         empty [] h = refl
         empty (x ∷ xs) h = absurd (omega arith)
     by false e k = absurd (cc)
-entries_take (suc count) size rest before all fits h =
+entries_take back (suc count) size rest before all fits h =
     let w = went (entry size rest before) _ all h in
-    let e = entry_takes size before rest w.value fits w.first in
-    let r = entries_take count size w.value.1 (before ++ w.value.0 ∷ []) all e.below w.second in
+    let e = entry_takes back size before rest w.value fits w.first in
+    let r = entries_take back count size w.value.1 (before ++ w.value.0 ∷ []) all e.below w.second in
     let many = r.many in
     record {
       read = w.value.0 ∷ r.read;
@@ -233,15 +229,15 @@ kept_is : (entries : List Entry) → AllKept entries → kept entries ≡ entrie
 kept_is [] all = refl
 kept_is (e ∷ es) all = rw (all.0, kept_is es all.1) refl
 
-pub loaded_is_saved : (bytes : List ℕ) (es : List Entry) → AreBelow (2 ^ 8) bytes → store_in bytes ≡ Ok es → bytes ≡ store_of es
+pub loaded_is_saved : BytesBack → (bytes : List ℕ) (es : List Entry) → AreBelow (2 ^ 8) bytes → store_in bytes ≡ Ok es → bytes ≡ store_of es
 unfolding store_in store_of
-loaded_is_saved bytes es fits h =
+loaded_is_saved back bytes es fits h =
     let m = went (field 4 (length bytes) bytes) _ es h in
     let magic = field_takes 4 (length bytes) bytes m.value fits m.first in
     let right = guarded (bytes_eq m.value.0 (codes "UVS1")) _ _ es m.second in
     let c = went (number (length bytes) m.value.1) _ es right.1 in
     let count = number_takes (length bytes) m.value.1 c.value magic.below c.first in
-    let r = entries_take c.value.0 (length bytes) c.value.1 [] es count.below c.second in
+    let r = entries_take back c.value.0 (length bytes) c.value.1 [] es count.below c.second in
     let letters : m.value.0 ≡ codes "UVS1" = (bytes_eq-Decides m.value.0 (codes "UVS1")).0 right.0 in
     let read : r.read ≡ es = sym r.whole in
     let all : kept es ≡ es = kept_is es (subst AllKept read r.last) in

@@ -9,7 +9,7 @@ use Rattle.std.proofs.Math.Seq.{take-append_seam, drop-append_seam}
 use Rattle.std.proofs.lemmas.List.Sums.{sum_by-cons, sum_by-append}
 use Rattle.std.proofs.lemmas.Nat.{from_le_bytes-to_le_bytes_2, from_le_bytes-to_le_bytes_4}
 use Rattle.uh_base.specs.declared.guid.Guid.{Guid}
-use Rattle.uh_base.specs.Guid.{IsGuid, bytes_of}
+use Rattle.uh_base.specs.Guid.{IsGuid, bytes_of, guid_of}
 use Rattle.variable_store.specs.declared.reading.Header.{Header}
 use Rattle.variable_store.specs.Entries.{Entry, cost, cost_of, total, room_of, index_of, place_of, is_named, is_non_volatile}
 use Rattle.variable_store.specs.Sets.{is_bad_name, lacks_boot_access}
@@ -19,7 +19,7 @@ use Rattle.variable_store.specs.Reading.{field, number, guid, units_in, fits_att
 use Rattle.variable_store.proofs.NameLemmas.{and_both, named_turned}
 use Rattle.variable_store.proofs.SetLemmas.{room_is}
 use Rattle.variable_store.proofs.EditLemmas.{few}
-use Rattle.variable_store.proofs.StoreLemmas.{guid_is}
+use Rattle.variable_store.proofs.StoreLemmas.{GuidsBack}
 
 -- a field that stands in front
 field_reads : (count size : ℕ) (front rest : List ℕ) → length front ≡ count → field count size (front ++ rest) ≡ Ok (front, rest)
@@ -38,11 +38,11 @@ number_reads size n front rest is h =
     let back : from_le_bytes w32 front ≡ n = ap (from_le_bytes w32) is ∙ from_le_bytes-to_le_bytes_4 n h in
     rw (field_reads 4 size front rest four, back) refl
 
-guid_reads : (size : ℕ) (g : Guid) (front rest : List ℕ) → front ≡ bytes_of g → IsGuid g → guid size (front ++ rest) ≡ Ok (g, rest)
+guid_reads : GuidsBack → (size : ℕ) (g : Guid) (front rest : List ℕ) → front ≡ bytes_of g → IsGuid g → guid size (front ++ rest) ≡ Ok (g, rest)
 unfolding guid bytes_of
-guid_reads size g front rest is h =
+guid_reads again size g front rest is h =
     let sixteen : length front ≡ 16 = ap length is in
-    let back = sym (guid_is g front h (sym is)) in
+    let back : guid_of front ≡ g = ap guid_of is ∙ again g h in
     rw (field_reads 16 size front rest sixteen, back) refl
 
 units_back : (name : List ℕ) → AreBelow (2 ^ 16) name → units_in (unit_bytes name) ≡ name
@@ -60,9 +60,9 @@ unfolding head
 head_reads size room attributes units bytes vendor a b c d e g n fits m name k room_fits = rw (g, n, fits, m, name, k, room_fits) refl
 
 entry_reads : (size : ℕ) (before : List Entry) (h : Header) (a b c d n p : List ℕ) → head size a (room_of before) ≡ Ok (h, b) → field (2 * h.units) size b ≡ Ok (n, c) → is_some (place_of before (units_in n) h.vendor false) ≡ false → field h.size size c ≡ Ok (p, d)
-    → entry size a before ≡ Ok (record { vendor = h.vendor; name = units_in n; attributes = h.attributes; payload = p }, d)
+    → entry size a before ≡ Ok (record { vendor = h.vendor; name = units_in n; attributes = h.attributes; «data» = p }, d)
 unfolding entry
-entry_reads size before h a b c d n p first name new payload = rw (first, name, new, payload) refl
+entry_reads size before h a b c d n p first name new last = rw (first, name, new, last) refl
 
 -- the bytes of a variable with others behind them
 pub regroup : (a b c d n p rest : List ℕ) → (a ++ (b ++ (c ++ (d ++ (n ++ p))))) ++ rest ≡ a ++ (b ++ (c ++ (d ++ (n ++ (p ++ rest)))))
@@ -103,47 +103,47 @@ name_fits e is =
     let two : nat_lt 1024 (length e.name) ≡ false = grind (arith, nat_tests) in
     rw (one, two) refl
 
-size_fits : (e : Entry) (room : ℕ) → IsEntry e → cost e ≤ room → fits_size (length e.name) (length e.payload) room ≡ true
+size_fits : (e : Entry) (room : ℕ) → IsEntry e → cost e ≤ room → fits_size (length e.name) (length e.data) room ≡ true
 size_fits e room is h =
     let some = is.some_bytes in
-    let one : (length e.payload == 0) ≡ false = grind (arith, nat_tests) in
-    let two : nat_le (cost_of (length e.name) (length e.payload)) room ≡ true = grind (arith, nat_tests) in
+    let one : (length e.data == 0) ≡ false = grind (arith, nat_tests) in
+    let two : nat_le (cost_of (length e.name) (length e.data)) room ≡ true = grind (arith, nat_tests) in
     rw (one, two) refl
 
 -- a variable is read from its bytes
-entry_back : (size : ℕ) (before : List Entry) (e : Entry) (rest : List ℕ) → IsEntry e → is_non_volatile e.attributes ≡ true → cost e ≤ room_of before → cost e ≤ 65_536 → place_of before e.name e.vendor false ≡ None
+entry_back : GuidsBack → (size : ℕ) (before : List Entry) (e : Entry) (rest : List ℕ) → IsEntry e → is_non_volatile e.attributes ≡ true → cost e ≤ room_of before → cost e ≤ 65_536 → place_of before e.name e.vendor false ≡ None
     → entry size (entry_bytes e ++ rest) before ≡ Ok (e, rest)
 unfolding entry_bytes
-entry_back size before e rest is k fits few new =
+entry_back again size before e rest is k fits few new =
     let low = is.attributes in
     let name_bytes = unit_bytes e.name in
     let there = units_back e.name is.units in
     let b0 = bytes_of e.vendor in
     let b1 = to_le_bytes w32 e.attributes in
     let b2 = to_le_bytes w32 (length e.name) in
-    let b3 = to_le_bytes w32 (length e.payload) in
-    let h : Header = record { vendor = e.vendor; attributes = e.attributes; units = length e.name; size = length e.payload } in
-    let first : head size (b0 ++ (b1 ++ (b2 ++ (b3 ++ (name_bytes ++ (e.payload ++ rest)))))) (room_of before) ≡ Ok (h, name_bytes ++ (e.payload ++ rest)) =
-    head_reads size (room_of before) e.attributes (length e.name) (length e.payload) e.vendor _ _ _ _ _
-    (guid_reads size e.vendor b0 _ refl is.vendor) (number_reads size e.attributes b1 _ refl (omega arith)) (kept_fits e is k)
+    let b3 = to_le_bytes w32 (length e.data) in
+    let h : Header = record { vendor = e.vendor; attributes = e.attributes; units = length e.name; size = length e.data } in
+    let first : head size (b0 ++ (b1 ++ (b2 ++ (b3 ++ (name_bytes ++ (e.data ++ rest)))))) (room_of before) ≡ Ok (h, name_bytes ++ (e.data ++ rest)) =
+    head_reads size (room_of before) e.attributes (length e.name) (length e.data) e.vendor _ _ _ _ _
+    (guid_reads again size e.vendor b0 _ refl is.vendor) (number_reads size e.attributes b1 _ refl (omega arith)) (kept_fits e is k)
     (number_reads size (length e.name) b2 _ refl (omega arith)) (name_fits e is)
-    (number_reads size (length e.payload) b3 _ refl (omega arith)) (size_fits e (room_of before) is fits) in
+    (number_reads size (length e.data) b3 _ refl (omega arith)) (size_fits e (room_of before) is fits) in
     let name : is_some (place_of before (units_in name_bytes) e.vendor false) ≡ false = rw (there, new) refl in
-    let all = entry_reads size before h _ _ _ rest name_bytes e.payload first (field_reads (2 * length e.name) size name_bytes (e.payload ++ rest) (units_long e.name)) name (field_reads (length e.payload) size e.payload rest refl) in
-    ap (λ bytes. entry size bytes before) (regroup b0 b1 b2 b3 name_bytes e.payload rest) ∙ all ∙ ap (λ n. Ok (record { vendor = e.vendor; name = n; attributes = e.attributes; payload = e.payload }, rest)) there
+    let all = entry_reads size before h _ _ _ rest name_bytes e.data first (field_reads (2 * length e.name) size name_bytes (e.data ++ rest) (units_long e.name)) name (field_reads (length e.data) size e.data rest refl) in
+    ap (λ bytes. entry size bytes before) (regroup b0 b1 b2 b3 name_bytes e.data rest) ∙ all ∙ ap (λ n. Ok (record { vendor = e.vendor; name = n; attributes = e.attributes; «data» = e.data }, rest)) there
 
 -- variables are read from theirs
-entries_back : (size : ℕ) (es before : List Entry) → AreVariables (before ++ es) → AllKept es → entries (length es) size (flat_map entry_bytes es) before ≡ Ok (before ++ es)
+entries_back : GuidsBack → (size : ℕ) (es before : List Entry) → AreVariables (before ++ es) → AllKept es → entries (length es) size (flat_map entry_bytes es) before ≡ Ok (before ++ es)
 unfolding entries
-entries_back size [] before valid k = ap Ok (sym (append-nil before))
-entries_back size (e ∷ es) before valid k =
+entries_back again size [] before valid k = ap Ok (sym (append-nil before))
+entries_back again size (e ∷ es) before valid k =
     let sums = sum_by-append cost before (e ∷ es) in
     let one = sum_by-cons cost e es in
     let room = valid.room in
     let left = room_is before in
-    let here = entry_back size before e (flat_map entry_bytes es) (each_there before e es valid.each) k.0 (omega arith) (omega arith) (not_there before e es valid.apart) in
+    let here = entry_back again size before e (flat_map entry_bytes es) (each_there before e es valid.each) k.0 (omega arith) (omega arith) (not_there before e es valid.apart) in
     let group : (before ++ e ∷ []) ++ es ≡ before ++ e ∷ es = append_assoc before (e ∷ []) es in
-    let rest : entries (length es) size (flat_map entry_bytes es) (before ++ e ∷ []) ≡ Ok ((before ++ e ∷ []) ++ es) = entries_back size es (before ++ e ∷ []) (rw group valid) k.1 in
+    let rest : entries (length es) size (flat_map entry_bytes es) (before ++ e ∷ []) ≡ Ok ((before ++ e ∷ []) ++ es) = entries_back again size es (before ++ e ∷ []) (rw group valid) k.1 in
     rw here (rest ∙ ap Ok group)
 
 -- the variables that outlive a run, among all
@@ -191,9 +191,9 @@ store_reads : (bytes magic b c : List ℕ) (count : ℕ) (read : Result (List En
 unfolding store_in
 store_reads bytes magic b c count read first is n rest = rw (first, is, n) rest
 
-pub saved_is_loaded : (entries : List Entry) → AreVariables entries → store_in (store_of entries) ≡ Ok (kept entries)
+pub saved_is_loaded : GuidsBack → (entries : List Entry) → AreVariables entries → store_in (store_of entries) ≡ Ok (kept entries)
 unfolding store_of
-saved_is_loaded es valid =
+saved_is_loaded again es valid =
     let room = valid.room in
     let less = less_kept es in
     let many = few (kept es) in
@@ -201,4 +201,4 @@ saved_is_loaded es valid =
     let bytes = store_of es in
     store_reads bytes (codes "UVS1") (to_le_bytes w32 (length (kept es)) ++ flat_map entry_bytes (kept es)) (flat_map entry_bytes (kept es)) (length (kept es)) (Ok (kept es))
     (field_reads 4 (length bytes) (codes "UVS1") _ refl) refl (number_reads (length bytes) (length (kept es)) (to_le_bytes w32 (length (kept es))) _ refl (omega arith))
-    (entries_back (length bytes) (kept es) [] kept_valid (all_kept es))
+    (entries_back again (length bytes) (kept es) [] kept_valid (all_kept es))

@@ -92,18 +92,18 @@ pub room_is : (entries : List Entry) → room_of entries ≡ 65_536 - total entr
 unfolding room_of
 room_is entries = refl
 
-cost_written : (attributes : ℕ) (bytes : List ℕ) (e : Entry) → cost (written attributes bytes e) ≤ cost e + (if is_append attributes then length bytes else length bytes - length e.payload)
+cost_written : (attributes : ℕ) (bytes : List ℕ) (e : Entry) → cost (written attributes bytes e) ≤ cost e + (if is_append attributes then length bytes else length bytes - length e.data)
 cost_written attributes bytes e = by (is_append attributes)
   where
-    by : (b : Bool) → cost_of (length e.name) (length (if b then e.payload ++ bytes else bytes)) ≤ cost e + (if b then length bytes else length bytes - length e.payload)
-    by true = omega (arith, length-append e.payload bytes)
+    by : (b : Bool) → cost_of (length e.name) (length (if b then e.data ++ bytes else bytes)) ≤ cost e + (if b then length bytes else length bytes - length e.data)
+    by true = omega (arith, length-append e.data bytes)
     by false = omega arith
 
 keeps_entry : (attributes : ℕ) (bytes : List ℕ) → 0 < length bytes → AreBelow (2 ^ 8) bytes → (e : Entry) → IsEntry e → IsEntry (written attributes bytes e)
 keeps_entry attributes bytes some all e is = by (is_append attributes)
   where
-    by : (b : Bool) → IsEntry (record e { payload = if b then e.payload ++ bytes else bytes })
-    by true = record { vendor = is.vendor; some_name = is.some_name; short_name = is.short_name; units = is.units; attributes = is.attributes; access = is.access; some_bytes = omega (arith, length-append e.payload bytes); bytes = below_more _ e.payload bytes is.bytes all }
+    by : (b : Bool) → IsEntry (record e { «data» = if b then e.data ++ bytes else bytes })
+    by true = record { vendor = is.vendor; some_name = is.some_name; short_name = is.short_name; units = is.units; attributes = is.attributes; access = is.access; some_bytes = omega (arith, length-append e.data bytes); bytes = below_more _ e.data bytes is.bytes all }
     by false = record { vendor = is.vendor; some_name = is.some_name; short_name = is.short_name; units = is.units; attributes = is.attributes; access = is.access; some_bytes = some; bytes = all }
 
 -- where a new variable isn't barred after the end of boot services, none is hidden

@@ -6,12 +6,12 @@ pub use Rattle.uh_base.specs.Guid.{same_guid}
 use Rattle.variable_store.specs.declared.refusal.VarRefusal.{VarRefusal}
 use Rattle.variable_store.specs.declared.refusal.VarRefusal.TheVariants.{Invalid}
 
--- a variable: who owns its name, the units of the name, its attributes and its bytes
+-- a variable: who owns its name, the units of the name, its attributes and its data
 pub record Entry : Type 0 where
   pub vendor : Guid
   pub name : List ℕ
   pub attributes : ℕ
-  pub payload : List ℕ
+  pub «data» : List ℕ
 
 -- EFI_VARIABLE_NON_VOLATILE: it outlives the run
 abbrev pub is_non_volatile : ℕ → Bool
@@ -30,7 +30,7 @@ abbrev pub cost_of : ℕ → ℕ → ℕ
 cost_of units size = 34 + 2 * units + size
 
 abbrev pub cost : Entry → ℕ
-cost entry = cost_of (length entry.name) (length entry.payload)
+cost entry = cost_of (length entry.name) (length entry.data)
 
 -- what all of them cost
 abbrev pub total : List Entry → ℕ

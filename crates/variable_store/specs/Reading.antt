@@ -1,20 +1,15 @@
 -- A store file read field by field: the variables, or the offset of the first field that isn't right.
-use Rattle.std.specs.Prelude.{ℕ, zero, suc, ◌-◌, ◌*◌, ◌<◌, ◌≤◌, ◌≡◌, ◌==◌, ◌&&◌, not, nat_le, nat_lt, Bool, false, List, [], ◌∷◌, ◌++◌, length, take, drop, codes, is_some, Result, Ok, Err, if◌then◌else◌}
+use Rattle.std.specs.Prelude.{ℕ, zero, suc, ◌-◌, ◌*◌, ◌<◌, ◌≤◌, ◌≡◌, ◌==◌, ◌&&◌, not, nat_le, nat_lt, Bool, false, List, [], ◌∷◌, ◌++◌, length, take, drop, codes, is_some, Option, Some, None, Result, Ok, Err, if◌then◌else◌}
 use Rattle.std.specs.Str.{bytes_eq}
-use Rattle.std.specs.Int.{w16, w32, w64, from_le_bytes, from_be_bytes}
+use Rattle.std.specs.Int.{w16, w32, from_le_bytes}
 use Rattle.uh_base.specs.declared.guid.Guid.{Guid}
-use Rattle.uh_base.specs.Guid.{IsGuid}
+use Rattle.uh_base.specs.Guid.{IsGuid, guid_of}
+use Rattle.uh_base.specs.Answers.{◌>>=◌}
 use Rattle.variable_store.specs.declared.reading.Header.{Header}
 use Rattle.variable_store.specs.declared.fault.StoreFault.{StoreFault}
 use Rattle.variable_store.specs.declared.fault.StoreFault.TheVariants.{At, Memory}
 use Rattle.variable_store.specs.Entries.{Entry, is_non_volatile, cost_of, room_of, place_of}
 use Rattle.variable_store.specs.Sets.{is_bad_name, lacks_boot_access}
-
-infixl 10 ◌>>=◌
--- a step, unless one before it has failed
-abbrev pub ◌>>=◌ : {A B : Type 0} → Result A ℕ → (A → Result B ℕ) → Result B ℕ
-(Ok x) >>= next = next x
-(Err at) >>= next = Err at
 
 -- where a file of so many bytes goes on, by the bytes that are left
 abbrev pub offset : ℕ → List ℕ → ℕ
@@ -29,16 +24,8 @@ unfoldable pub number : ℕ → List ℕ → Result (ℕ × List ℕ) ℕ
 number size rest = field 4 size rest >>= λ read. Ok (from_le_bytes w32 read.0, read.1)
 
 -- the GUID of sixteen bytes
-abbrev pub guid_in : List ℕ → Guid
-guid_in bytes = record {
-  d1 = from_le_bytes w32 (take 4 bytes);
-  d2 = from_le_bytes w16 (take 2 (drop 4 bytes));
-  d3 = from_le_bytes w16 (take 2 (drop 6 bytes));
-  d4 = from_be_bytes w64 (drop 8 bytes);
-}
-
 unfoldable pub guid : ℕ → List ℕ → Result (Guid × List ℕ) ℕ
-guid size rest = field 16 size rest >>= λ read. Ok (guid_in read.0, read.1)
+guid size rest = field 16 size rest >>= λ read. Ok (guid_of read.0, read.1)
 
 -- the units of two bytes each
 unfoldable pub units_in : List ℕ → List ℕ
@@ -54,7 +41,7 @@ guard test at = if test then Ok tt else Err at
 abbrev pub fits_attributes : ℕ → Bool
 fits_attributes attributes = is_non_volatile attributes && nat_lt attributes 8 && not (lacks_boot_access attributes)
 
--- a payload that is there, and fits in the room that is left
+-- data that is there, and fits in the room that is left
 abbrev pub fits_size : ℕ → ℕ → ℕ → Bool
 fits_size units size room = not (size == 0) && nat_le (cost_of units size) room
 
@@ -76,8 +63,8 @@ entry size rest before = do
   first ← head size rest (room_of before)
   name ← field (2 * first.0.units) size first.1
   _ ← guard (not (is_some (place_of before (units_in name.0) first.0.vendor false))) (offset size first.1)
-  payload ← field first.0.size size name.1
-  Ok (record { vendor = first.0.vendor; name = units_in name.0; attributes = first.0.attributes; payload = payload.0 }, payload.1)
+  bytes ← field first.0.size size name.1
+  Ok (record { vendor = first.0.vendor; name = units_in name.0; attributes = first.0.attributes; «data» = bytes.0 }, bytes.1)
 
 -- so many variables behind others, and nothing behind them
 unfoldable pub entries : ℕ → ℕ → List ℕ → List Entry → Result (List Entry) ℕ
@@ -92,14 +79,10 @@ store_in bytes = do
   count ← number (length bytes) magic.1
   entries count.0 (length bytes) count.1 []
 
--- What a function gives is what reading gives, unless the host has no memory.
-abbrev pub FailsAt : {Y : Type 0} → StoreFault → Result Y ℕ → Type 0
-FailsAt (At at) read = read ≡ Err at
-FailsAt Memory read = Unit {0}
-
-abbrev pub Reads : {X Y : Type 0} → (X → Y) → Result X StoreFault → Result Y ℕ → Type 0
-Reads view (Ok x) read = read ≡ Ok (view x)
-Reads view (Err fault) read = FailsAt fault read
+-- a fault as reading names it: an offset, and none for want of memory
+abbrev pub named : StoreFault → Option ℕ
+named (At at) = Some at
+named Memory = None
 
 -- what is so of a header
 pub record IsHeader (head : Header) (room : ℕ) : Type 0 where

@@ -61,7 +61,7 @@ is_other asked (Some entry) = not (entry.attributes == kept_bits asked.attribute
 -- how much of the room a write takes
 abbrev pub need : Asked → Option Entry → ℕ
 need asked None = cost_of asked.units asked.size
-need asked (Some entry) = if is_append asked.attributes then asked.size else asked.size - length entry.payload
+need asked (Some entry) = if is_append asked.attributes then asked.size else asked.size - length entry.data
 
 abbrev pub is_past : Asked → Option Entry → ℕ → Bool
 is_past asked there room = is_write asked.attributes asked.size && nat_lt room (need asked there)
@@ -104,11 +104,11 @@ changed_at change (entry ∷ entries) (suc place) = entry ∷ changed_at change 
 
 -- an entry with other bytes, or with more
 abbrev pub written : ℕ → List ℕ → Entry → Entry
-written attributes bytes entry = record entry { payload = if is_append attributes then entry.payload ++ bytes else bytes }
+written attributes bytes entry = record entry { «data» = if is_append attributes then entry.data ++ bytes else bytes }
 
 -- a new variable
 abbrev pub new_entry : List ℕ → Guid → ℕ → List ℕ → Entry
-new_entry name vendor attributes bytes = record { vendor = vendor; name = name; attributes = kept_bits attributes; payload = bytes }
+new_entry name vendor attributes bytes = record { vendor = vendor; name = name; attributes = kept_bits attributes; «data» = bytes }
 
 abbrev pub with_bytes : List Entry → List ℕ → Guid → ℕ → List ℕ → Option ℕ → List Entry
 with_bytes entries name vendor attributes bytes None = entries ++ new_entry name vendor attributes bytes ∷ []

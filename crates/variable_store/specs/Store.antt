@@ -13,10 +13,10 @@ kept entries = filter (λ entry. is_non_volatile entry.attributes) entries
 abbrev pub unit_bytes : List ℕ → List ℕ
 unit_bytes name = flat_map (to_le_bytes w16) name
 
--- a variable: the vendor, the attributes, the units of the name, the bytes of the payload, the name, the payload
+-- a variable: the vendor, the attributes, the units of the name, the bytes of the data, the name, the data
 unfoldable pub entry_bytes : Entry → List ℕ
 entry_bytes entry =
-    bytes_of entry.vendor ++ (to_le_bytes w32 entry.attributes ++ (to_le_bytes w32 (length entry.name) ++ (to_le_bytes w32 (length entry.payload) ++ (unit_bytes entry.name ++ entry.payload))))
+    bytes_of entry.vendor ++ (to_le_bytes w32 entry.attributes ++ (to_le_bytes w32 (length entry.name) ++ (to_le_bytes w32 (length entry.data) ++ (unit_bytes entry.name ++ entry.data))))
 
 -- four letters, how many variables there are, and these in order
 unfoldable pub store_of : List Entry → List ℕ

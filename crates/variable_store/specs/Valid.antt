@@ -18,8 +18,8 @@ pub record IsEntry (entry : Entry) : Type 0 where
   pub units : AreBelow (2 ^ 16) entry.name
   pub attributes : entry.attributes < 8
   pub access : lacks_boot_access entry.attributes ≡ false
-  pub some_bytes : 0 < length entry.payload
-  pub bytes : AreBelow (2 ^ 8) entry.payload
+  pub some_bytes : 0 < length entry.data
+  pub bytes : AreBelow (2 ^ 8) entry.data
 
 abbrev pub AreEntries : List Entry → Type 0
 AreEntries [] = Unit {0}

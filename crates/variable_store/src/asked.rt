@@ -110,7 +110,7 @@ impl Asked {
                 if is_append(self.attributes) {
                     u128::from(self.size)
                 } else {
-                    u128::from(self.size.saturating_sub(variable.payload.len() as u64))
+                    u128::from(self.size.saturating_sub(variable.data.len() as u64))
                 }
             }
             None => 34 + 2 * self.units as u128 + u128::from(self.size),

@@ -2,8 +2,9 @@
 #![tactic(auto)]
 
 ghost use Rattle.std.specs.Prelude.{◌≡◌, ◌++◌, [], ◌∷◌, IfOk};
+ghost use Rattle.uh_base.specs.Answers.{Reads};
 ghost use Rattle.variable_store.specs.Valid.{AreVariables};
-ghost use Rattle.variable_store.specs.Reading.{entry, entries, store_in, Reads};
+ghost use Rattle.variable_store.specs.Reading.{entry, entries, store_in, named};
 
 use crate::fault::StoreFault;
 use crate::reading::{field, head, number, offset, units_in};
@@ -19,7 +20,7 @@ fn entry<'a>(
     rest: &'a [u8],
     before: &Variables,
 ) -> Result<(Variable, &'a [u8]), StoreFault>
-    ensures reads { Reads (λ read. (read.0, read.1.now)) result (entry size rest.now before.now) }
+    ensures reads { Reads named (λ read. (read.0, read.1.now)) result (entry size rest.now before.now) }
     ensures valid { IfOk result (λ read. AreVariables (before.now ++ read.0 ∷ [])) }
 {
     before.whole();
@@ -32,19 +33,19 @@ fn entry<'a>(
     let (bytes, rest) = field(first.size as usize, size, rest)?;
     units_fit(&name);
     bytes_fit(bytes);
-    let payload = Vec::from_slice(alloc, bytes)?;
+    let data = Vec::from_slice(alloc, bytes)?;
     let variable = Variable {
         vendor: first.vendor,
         name,
         attributes: first.attributes,
-        payload,
+        data,
     };
     Ok((variable, rest))
 }
 
 /// So many variables, and nothing behind them.
 fn entries(alloc: Global, count: u32, size: usize, rest: &[u8]) -> Result<Variables, StoreFault>
-    ensures { Reads (λ variables. variables) result (entries count size rest.now []) }
+    ensures { Reads named (λ variables. variables) result (entries count size rest.now []) }
 {
     let mut variables = Variables::new(alloc);
     let mut left = rest;
@@ -67,7 +68,7 @@ fn entries(alloc: Global, count: u32, size: usize, rest: &[u8]) -> Result<Variab
 /// The variables of a store file.
 #[tactic(auto, unfolding(crate::specs::Reading::store_in))]
 pub fn load(alloc: Global, bytes: &[u8]) -> Result<Variables, StoreFault>
-    ensures { Reads (λ variables. variables) result (store_in bytes.now) }
+    ensures { Reads named (λ variables. variables) result (store_in bytes.now) }
 {
     let size = bytes.len();
     let (magic, rest) = field(4, size, bytes)?;

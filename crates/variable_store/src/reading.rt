@@ -2,16 +2,17 @@
 #![tactic(auto)]
 
 ghost use Rattle.std.specs.Prelude.{◌≡◌, ◌≤◌, length, IfOk};
-ghost use Rattle.variable_store.specs.Reading.{offset, field, number, guid, guid_in, units_in, fits_attributes, fits_size, head, Reads, IsHeader};
+ghost use Rattle.uh_base.specs.Answers.{Reads};
+ghost use Rattle.variable_store.specs.Reading.{offset, field, number, guid, units_in, fits_attributes, fits_size, head, named, IsHeader};
 
 use crate::asked::is_bad_name;
 use crate::fault::StoreFault;
-use crate::variable::{fits, is_non_volatile};
+use crate::variable::is_non_volatile;
 use std::alloc::{AllocError, Global};
 use uh_base::Guid;
 
 /// What stands before the name of a variable: the vendor, the attributes, the units of the name, and the bytes of the
-/// payload.
+/// data.
 #[derive(Clone, Copy)]
 pub struct Header {
     pub vendor: Guid,
@@ -30,7 +31,7 @@ pub fn offset(size: usize, rest: &[u8]) -> usize
 /// So many bytes, and those behind them.
 #[tactic(auto, unfolding(crate::specs::Reading::field))]
 pub fn field(count: usize, size: usize, rest: &[u8]) -> Result<(&[u8], &[u8]), StoreFault>
-    ensures reads { Reads (λ read. (read.0.now, read.1.now)) result (field count size rest.now) }
+    ensures reads { Reads named (λ read. (read.0.now, read.1.now)) result (field count size rest.now) }
     ensures length { IfOk result (λ read. length read.0.now ≡ count) }
 {
     if rest.len() < count {
@@ -42,7 +43,7 @@ pub fn field(count: usize, size: usize, rest: &[u8]) -> Result<(&[u8], &[u8]), S
 /// A number of four bytes.
 #[tactic(auto, unfolding(crate::specs::Reading::number, crate::specs::Reading::field))]
 pub fn number(size: usize, rest: &[u8]) -> Result<(u32, &[u8]), StoreFault>
-    ensures { Reads (λ read. (read.0, read.1.now)) result (number size rest.now) }
+    ensures { Reads named (λ read. (read.0, read.1.now)) result (number size rest.now) }
 {
     match rest.split_first_chunk::<4>() {
         Some((bytes, behind)) => Ok((u32::from_le_bytes(*bytes), behind)),
@@ -50,21 +51,13 @@ pub fn number(size: usize, rest: &[u8]) -> Result<(u32, &[u8]), StoreFault>
     }
 }
 
-fn guid_in(bytes: &[u8; 16]) -> Guid
-    ensures { result ≡ guid_in bytes.now }
-{
-    let guid = Guid::from_bytes(bytes);
-    fits(&guid);
-    guid
-}
-
 /// A GUID of sixteen bytes.
 #[tactic(auto, unfolding(crate::specs::Reading::guid, crate::specs::Reading::field))]
 pub fn guid(size: usize, rest: &[u8]) -> Result<(Guid, &[u8]), StoreFault>
-    ensures { Reads (λ read. (read.0, read.1.now)) result (guid size rest.now) }
+    ensures { Reads named (λ read. (read.0, read.1.now)) result (guid size rest.now) }
 {
     match rest.split_first_chunk::<16>() {
-        Some((bytes, behind)) => Ok((guid_in(bytes), behind)),
+        Some((bytes, behind)) => Ok((Guid::from_bytes(bytes), behind)),
         None => Err(StoreFault::At(offset(size, rest))),
     }
 }
@@ -94,10 +87,10 @@ fn fits_size(units: u32, size: u32, room: u64) -> bool
     size != 0 && 34 + 2 * u64::from(units) + u64::from(size) <= room
 }
 
-/// What stands before the name of a variable. Its payload isn't empty, and it fits in the room that is left.
+/// What stands before the name of a variable. Its data isn't empty, and it fits in the room that is left.
 #[tactic(auto, unfolding(crate::specs::Reading::head))]
 pub fn head(size: usize, rest: &[u8], room: u64) -> Result<(Header, &[u8]), StoreFault>
-    ensures reads { Reads (λ read. (read.0, read.1.now)) result (head size rest.now room) }
+    ensures reads { Reads named (λ read. (read.0, read.1.now)) result (head size rest.now room) }
     ensures limits { IfOk result (λ read. IsHeader read.0 room) }
 {
     let (vendor, behind) = guid(size, rest)?;

@@ -34,18 +34,18 @@ fn push_parts(
     vendor: &Guid,
     attributes: u32,
     name: &[u16],
-    payload: &[u8],
+    data: &[u8],
 ) -> Result<(), AllocError>
     requires name { length name.now ≤ 65_536 }
-    requires payload { length payload.now ≤ 65_536 }
-    ensures { OnOk result (out.new.items ≡ out.old.items ++ entry_bytes (record { vendor = vendor.now; name = name.now; attributes = attributes; payload = payload.now })) }
+    requires size { length «data».now ≤ 65_536 }
+    ensures { OnOk result (out.new.items ≡ out.old.items ++ entry_bytes (record { vendor = vendor.now; name = name.now; attributes = attributes; «data» = «data».now })) }
 {
     out.extend_from_slice(&vendor.to_bytes())?;
     out.extend_from_slice(&attributes.to_le_bytes())?;
     push_number(out, name.len())?;
-    push_number(out, payload.len())?;
+    push_number(out, data.len())?;
     push_units(out, name)?;
-    out.extend_from_slice(payload)?;
+    out.extend_from_slice(data)?;
     Ok(())
 }
 
@@ -58,7 +58,7 @@ fn push_entry(out: &mut Vec<u8>, variable: &Variable) -> Result<(), AllocError>
         &variable.vendor,
         variable.attributes,
         &variable.name,
-        &variable.payload,
+        &variable.data,
     )
 }
 

@@ -25,10 +25,10 @@ const A: &[u16] = &[0x41];
 
 const B: &[u16] = &[0x42];
 
-/// The payload of the variable at a place.
-fn payload(variables: &Variables, place: usize) -> &[u8] {
+/// The data of the variable at a place.
+fn data_at(variables: &Variables, place: usize) -> &[u8] {
     match variables.at(place) {
-        Some(variable) => &variable.payload,
+        Some(variable) => &variable.data,
         None => &[],
     }
 }
@@ -62,7 +62,7 @@ fn sets_before_the_end_of_boot_services(rt: HostRuntime) -> Result<(), Fail> {
             answer
         );
         let place = variables.find(A, &GLOBAL, false);
-        assert_eq!(rt; payload(&variables, place.unwrap_or(9)), wanted);
+        assert_eq!(rt; data_at(&variables, place.unwrap_or(9)), wanted);
         assert_eq!(rt; variables.room(), room);
     }
     Ok(())
@@ -104,7 +104,7 @@ fn sets_after_the_end_of_boot_services(rt: HostRuntime) -> Result<(), Fail> {
     assert_eq!(rt; variables.find(names[1], &GLOBAL, true), None);
     assert_eq!(rt; variables.find(names[1], &GLOBAL, false), Some(0));
     assert_eq!(rt; variables.find(names[3], &GLOBAL, true), Some(2));
-    assert_eq!(rt; payload(&variables, 1), &[1][..]);
+    assert_eq!(rt; data_at(&variables, 1), &[1][..]);
     Ok(())
 }
 
@@ -203,7 +203,7 @@ fn a_store_of_one_variable(rt: HostRuntime) -> Result<(), Fail> {
     assert_eq!(rt; bytes.as_slice(), &wanted[..]);
     let loaded = Variables::load(rt.alloc(), &bytes).expect(&rt, "a store");
     assert_eq!(rt; loaded.find(A, &GLOBAL, false), Some(0));
-    assert_eq!(rt; payload(&loaded, 0), &[1, 2][..]);
+    assert_eq!(rt; data_at(&loaded, 0), &[1, 2][..]);
     assert_eq!(rt; loaded.room(), 65_498);
     assert_eq!(rt; loaded.at(1).is_none(), true);
     assert_eq!(rt; fault_of(&rt, &wanted[..39]), Some(StoreFault::At(38)));

@@ -20,13 +20,13 @@ pub const RUNTIME_ACCESS: u32 = 4;
 /// EFI_VARIABLE_APPEND_WRITE: bytes are put behind those that are there.
 pub const APPEND_WRITE: u32 = 0x40;
 
-/// A variable: who owns its name, the units of its name without an end, its attributes, and its bytes.
+/// A variable: who owns its name, the units of its name without an end, its attributes, and its data.
 #[derive(Debug, Drop)]
 pub struct Variable {
     pub vendor: Guid,
     pub name: Vec<u16>,
     pub attributes: u32,
-    pub payload: Vec<u8>,
+    pub data: Vec<u8>,
 }
 
 impl Model for Variable {
@@ -34,7 +34,7 @@ impl Model for Variable {
 
     ghost Value = { Entry };
 
-    ghost view = { λ v. record { vendor = v.vendor; name = v.name.items; attributes = v.attributes; payload = v.payload.items } };
+    ghost view = { λ v. record { vendor = v.vendor; name = v.name.items; attributes = v.attributes; «data» = v.data.items } };
 }
 
 /// The variable outlives the run (EFI_VARIABLE_NON_VOLATILE).
@@ -112,9 +112,9 @@ impl Variable {
         ensures err { OnErr result (self.new ≡ self.old) }
     {
         if is_append(attributes) {
-            self.payload.extend_from_slice(bytes)?;
+            self.data.extend_from_slice(bytes)?;
         } else {
-            self.payload = Vec::from_slice(*self.payload.allocator(), bytes)?;
+            self.data = Vec::from_slice(*self.data.allocator(), bytes)?;
         }
         Ok(())
     }
@@ -124,6 +124,6 @@ impl Variable {
         requires { cost self.now ≤ 65_536 }
         ensures { result ≡ cost self.now }
     {
-        34 + 2 * self.name.len() as u64 + self.payload.len() as u64
+        34 + 2 * self.name.len() as u64 + self.data.len() as u64
     }
 }

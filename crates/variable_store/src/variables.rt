@@ -2,11 +2,12 @@
 #![tactic(auto)]
 
 ghost use Rattle.std.specs.Prelude.{◌≡◌, ◌≢◌, ◌<◌, ◌≤◌, ◌+◌, ◌++◌, [], ◌∷◌, length, remove, IfSome, IfNone, IfOk, OnOk, OnErr, Some, None, Ok, slice_get};
+ghost use Rattle.uh_base.specs.Answers.{Reads};
 ghost use Rattle.variable_store.specs.Entries.{room_of, place_of, next_of};
 ghost use Rattle.variable_store.specs.Sets.{refusal_of, new_entry, changed_at, written, set_of, Gives};
 ghost use Rattle.variable_store.specs.Valid.{AreVariables};
 ghost use Rattle.variable_store.specs.Store.{store_of};
-ghost use Rattle.variable_store.specs.Reading.{store_in, Reads};
+ghost use Rattle.variable_store.specs.Reading.{store_in, named};
 ghost use Rattle.variable_store.specs.declared.refusal.VarRefusal.TheVariants.{Memory};
 
 use crate::asked::Asked;
@@ -159,7 +160,7 @@ impl Variables {
             vendor: *vendor,
             name: Vec::from_slice(alloc, name)?,
             attributes: attributes & 7,
-            payload: Vec::from_slice(alloc, bytes)?,
+            data: Vec::from_slice(alloc, bytes)?,
         };
         self.push(variable)
     }
@@ -251,8 +252,8 @@ impl Variables {
     }
 
     /// The store file of the variables that outlive a run: `UVS1`, how many there are as four bytes, and for each its
-    /// vendor's 16 bytes, its attributes, the units of its name and the bytes of its payload as four bytes each, the
-    /// name's units and the payload. Numbers have their least byte first.
+    /// vendor's 16 bytes, its attributes, the units of its name and the bytes of its data as four bytes each, the
+    /// name's units and the data. Numbers have their least byte first.
     pub fn save(&self) -> Result<Vec<u8>, AllocError>
         ensures { IfOk result (λ bytes. bytes.items ≡ store_of self.now) }
     {
@@ -262,10 +263,10 @@ impl Variables {
     /// The variables of a store file. A fault is the first field, by its offset, that is cut, out of its limits, repeated
     /// or behind the last variable: the four letters, the count, and of each variable the vendor, the attributes
     /// (non-volatile, and runtime access only with boot access), the units of the name (1 to 1,024), the bytes of the
-    /// payload (some, and the variable fits in the room that is left), the name (none before is of the same vendor and
-    /// name), and the payload.
+    /// data (some, and the variable fits in the room that is left), the name (none before is of the same vendor and
+    /// name), and the data.
     pub fn load(alloc: Global, bytes: &[u8]) -> Result<Variables, StoreFault>
-        ensures { Reads (λ variables. variables) result (store_in bytes.now) }
+        ensures { Reads named (λ variables. variables) result (store_in bytes.now) }
     {
         loading::load(alloc, bytes)
     }
