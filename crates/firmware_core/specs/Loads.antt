@@ -1,5 +1,6 @@
 -- How an image file is loaded, and how an image begins and ends.
 use Rattle.std.specs.Prelude.{ℕ, zero, suc, ◌≡◌, ◌≤◌, ◌+◌, ◌-◌, ◌*◌, ◌/◌, ◌^◌, ◌==◌, ◌&&◌, ◌||◌, nat_le, nat_lt, Bool, true, false, not, ◌%◌, is_none, List, [], ◌∷◌, ◌++◌, length, replicate, Option, Some, None, Result, Ok, Err, slice_set, if◌then◌else◌}
+use Rattle.uh_base.specs.Answers.{◌>>=◌}
 use Rattle.uh_base.specs.Statuses.{load_error, unsupported, out_of_resources}
 use Rattle.guest_memory.specs.Lists.{count_true}
 use Rattle.guest_memory.specs.Pages.{Pages, all_rights}
@@ -92,11 +93,6 @@ with_image_rights m first image =
     else with_section_rights (with_rights m first (page_count image) readable) first image.sections
 
 -- ---- the load
-
-infixl 10 ◌>>=◌
-abbrev pub ◌>>=◌ : {A B : Type 0} → Result A ℕ → (A → Result B ℕ) → Result B ℕ
-(Ok x) >>= f = f x
-(Err status) >>= f = Err status
 
 abbrev pub read_image : Result Fields PeFault → Result Fields ℕ
 read_image (Ok image) = Ok image

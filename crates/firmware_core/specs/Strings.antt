@@ -4,16 +4,16 @@ use Rattle.std.specs.Option.{option_map}
 use Rattle.uh_base.specs.Bytes.{next, number_at}
 use Rattle.guest_memory.specs.Pages.{Pages, bytes_of}
 use Rattle.address_view.specs.declared.view.Window.{Window}
-use Rattle.address_view.specs.Windows.{seen_bytes}
+use Rattle.address_view.specs.Windows.{see, seen_bytes}
 use Rattle.address_view.specs.Seen.{is_seen}
 
 -- both bytes of a unit are seen
 abbrev pub unit_is_seen : List Window → Pages → ℕ → Bool
-unit_is_seen view m at = is_seen view m at && is_seen view m (next at)
+unit_is_seen view m at = is_seen (see view) m at && is_seen (see view) m (next at)
 
 -- the unit at an address
 abbrev pub unit_at : List Window → Pages → ℕ → ℕ
-unit_at view m at = number_at (seen_bytes view (bytes_of m)) at 2
+unit_at view m at = number_at (seen_bytes (see view) (bytes_of m)) at 2
 
 -- The units before the first unit of 0, which is one of so many from an address on; none where it isn't, or where a
 -- byte up to its end isn't seen.

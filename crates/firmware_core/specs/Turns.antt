@@ -4,7 +4,7 @@ use Rattle.uh_base.specs.Statuses.{unsupported}
 use Rattle.rv_step.specs.Exec.{Outcome, Went, Stored, Stopped, step_of}
 use Rattle.rv_step.specs.Exec as exec
 use Rattle.guest_memory.specs.Pages.{bytes_of, rights_at}
-use Rattle.address_view.specs.Windows.{seen_bytes}
+use Rattle.address_view.specs.Windows.{see, seen_bytes}
 use Rattle.address_view.specs.Seen.{view_allows}
 use Rattle.address_view.specs.Stored.{store_seen, lacks_seen}
 use Rattle.firmware_core.specs.declared.happened.Happened.{Happened}
@@ -21,7 +21,7 @@ pub record Turn : Type 0 where
 
 -- what the instruction at the program counter works on
 abbrev pub hart_of : State → exec.State
-hart_of s = record { x = s.x; pc = s.pc; bytes = seen_bytes s.view (bytes_of s.memory) }
+hart_of s = record { x = s.x; pc = s.pc; bytes = seen_bytes (see s.view) (bytes_of s.memory) }
 
 -- the state with what an instruction made of the registers
 abbrev pub moved_to : State → exec.State → State
@@ -31,12 +31,12 @@ moved_to s to = record s { x = to.x; pc = to.pc }
 abbrev pub instruction_comes_to : State → Outcome → Turn
 instruction_comes_to s (Went to) = record { happened = happened.Went; state = moved_to s to }
 instruction_comes_to s (Stored at width value to) =
-    if lacks_seen s.view s.memory at width then record { happened = happened.Frames; state = s }
-    else record { happened = happened.Went; state = record (moved_to s to) { memory = store_seen s.view s.memory at width value } }
+    if lacks_seen (see s.view) s.memory at width then record { happened = happened.Frames; state = s }
+    else record { happened = happened.Went; state = record (moved_to s to) { memory = store_seen (see s.view) s.memory at width value } }
 instruction_comes_to s (Stopped trap) = record { happened = happened.Trapped trap; state = s }
 
 unfoldable pub instruction_turn : State → Turn
-instruction_turn s = instruction_comes_to s (step_of (view_allows s.view (rights_at s.memory)) (hart_of s))
+instruction_turn s = instruction_comes_to s (step_of (view_allows (see s.view) (rights_at s.memory)) (hart_of s))
 
 -- ---- a service
 

@@ -3,7 +3,8 @@ ghost use Rattle.std.specs.Prelude.{◌≡◌};
 ghost use Rattle.rv_step.specs.Exec.{step_of};
 ghost use Rattle.rv_step.specs.Steps.{StepGives, StepKeeps, state_of};
 ghost use Rattle.guest_memory.specs.Pages.{bytes_of, rights_at};
-ghost use Rattle.address_view.specs.Windows.{seen_bytes};
+ghost use Rattle.guest_memory.specs.Changes.{TouchedBesides};
+ghost use Rattle.address_view.specs.Windows.{see, seen_bytes};
 ghost use Rattle.address_view.specs.Seen.{view_allows};
 ghost use Rattle.address_view.specs.Stored.{store_seen, lacks_seen, all_touched};
 
@@ -13,12 +14,12 @@ use rv_step::{Regs, StepEnd, step};
 
 /// Carries out the instruction at the program counter.
 pub fn instruction(regs: &mut Regs, memory: &mut GuestMemory, view: &View) -> StepEnd
-    ensures step { StepGives (lacks_seen view.now memory.old) (all_touched view.now memory.old) result
-        (step_of (view_allows view.now (rights_at memory.old)) (state_of regs.old (seen_bytes view.now (bytes_of memory.old))))
-        (state_of regs.old (seen_bytes view.now (bytes_of memory.old)))
-        (state_of regs.new (seen_bytes view.now (bytes_of memory.new))) }
-    ensures content { StepKeeps (store_seen view.now memory.old) result
-        (step_of (view_allows view.now (rights_at memory.old)) (state_of regs.old (seen_bytes view.now (bytes_of memory.old))))
+    ensures step { StepGives (lacks_seen (see view.now) memory.old) (all_touched (see view.now) memory.old) result
+        (step_of (view_allows (see view.now) (rights_at memory.old)) (state_of regs.old (seen_bytes (see view.now) (bytes_of memory.old))))
+        (state_of regs.old (seen_bytes (see view.now) (bytes_of memory.old)))
+        (state_of regs.new (seen_bytes (see view.now) (bytes_of memory.new))) }
+    ensures content { StepKeeps TouchedBesides (store_seen (see view.now) memory.old) result
+        (step_of (view_allows (see view.now) (rights_at memory.old)) (state_of regs.old (seen_bytes (see view.now) (bytes_of memory.old))))
         memory.old memory.new }
     ensures base { memory.new.base ≡ memory.old.base }
     ensures pages { memory.new.pages ≡ memory.old.pages }

@@ -1,7 +1,7 @@
 //! The services of the firmware.
 ghost use Rattle.std.specs.Prelude.{◌≡◌, ◌<◌, ◌≤◌, ◌-◌, ◌+◌, ◌*◌, IfOk, IfSome, Some, None, if◌then◌else◌, option_map};
 ghost use Rattle.guest_memory.specs.Pages.{bytes_of};
-ghost use Rattle.address_view.specs.Windows.{seen_bytes};
+ghost use Rattle.address_view.specs.Windows.{see, seen_bytes};
 ghost use Rattle.address_view.specs.Seen.{is_seen};
 ghost use Rattle.firmware_core.specs.Services.{output_string};
 ghost use Rattle.firmware_core.specs.Strings.{string_at, unit_is_seen, unit_at};
@@ -28,7 +28,7 @@ pub enum Served {
 /// The byte that is seen at an address, whatever the rights there.
 #[tactic(auto, unfolding(address_view::specs::Windows::seen_bytes))]
 fn seen_byte(view: &View, memory: &GuestMemory, at: u64) -> Option<u8>
-    ensures { result ≡ (if is_seen view.now memory.now at then Some (seen_bytes view.now (bytes_of memory.now) at) else None) }
+    ensures { result ≡ (if is_seen (see view.now) memory.now at then Some (seen_bytes (see view.now) (bytes_of memory.now) at) else None) }
 {
     match view.translate(at) {
         Some(place) => memory.get(place),
@@ -39,7 +39,7 @@ fn seen_byte(view: &View, memory: &GuestMemory, at: u64) -> Option<u8>
 /// The unit that is seen at an address.
 #[tactic(auto, unfolding(uh_base::specs::Bytes::number_at))]
 fn seen_unit(view: &View, memory: &GuestMemory, at: u64) -> Option<u16>
-    ensures { result ≡ (if unit_is_seen view.now memory.now at then Some (unit_at view.now memory.now at) else None) }
+    ensures { result ≡ (if unit_is_seen (see view.now) memory.now at then Some (unit_at view.now memory.now at) else None) }
 {
     let low = seen_byte(view, memory, at)?;
     let high = seen_byte(view, memory, at.wrapping_add(1))?;
