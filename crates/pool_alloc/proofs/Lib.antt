@@ -8,3 +8,4 @@ pub mod RestLemmas
 pub mod BackLemmas
 pub mod TakingLemmas
 pub mod LawLemmas
+pub mod TogetherLemmas

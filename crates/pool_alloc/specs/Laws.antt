@@ -2,7 +2,10 @@
 use Rattle.std.specs.Prelude.{ℕ, ◌≡◌, ◌<◌, ◌≤◌, ◌+◌, ◌*◌, ◌%◌, true, false, List, length, slice_index_or, Option, Some, None}
 use Rattle.pool_alloc.specs.declared.block.Block.{Block}
 use Rattle.pool_alloc.specs.Blocks.{has_room, lowest}
-use Rattle.pool_alloc.specs.Pool.{BlockPage, pages_of, Apart, IsPool}
+use Rattle.page_alloc.specs.declared.page.Owner.TheVariants.{Pool}
+use Rattle.page_alloc.specs.Pages.{PageList, Whole}
+use Rattle.page_alloc.specs.Laws.{PageCall, after_call, is_release_by}
+use Rattle.pool_alloc.specs.Pool.{BlockPage, pages_of, Apart, IsPool, Together}
 
 -- An offset has room and no lower one has; or none has.
 abbrev pub IsLowest : List Block → ℕ → Option ℕ → Type 0
@@ -25,3 +28,7 @@ abbrev pub PoolIsApart : Type 0
 PoolIsApart = (pool : List BlockPage) → IsPool pool
     → ((i : ℕ) (d : BlockPage) → i < length pool → AreApart (slice_index_or pool i d))
     × ((i j : ℕ) (d : BlockPage) → i < j → j < length pool → Apart (slice_index_or pool i d) (slice_index_or pool j d))
+
+-- A pool and its pages stay together in each call on pages but the pool's own FreePages.
+abbrev pub PoolStaysTogether : Type 0
+PoolStaysTogether = (pool : List BlockPage) (m : PageList) (call : PageCall) → Whole m → IsPool pool → is_release_by Pool call ≡ false → Together pool m → Together pool (after_call m call)

@@ -1,7 +1,9 @@
 //! What the definitions come to. Each law is the contract of a function that does nothing.
 #![tactic(auto)]
 
-ghost use Rattle.pool_alloc.specs.Laws.{LowestIsLowest, PoolIsApart};
+ghost use Rattle.pool_alloc.specs.Laws.{LowestIsLowest, PoolIsApart, PoolStaysTogether};
+
+use page_alloc::owned_stay;
 
 /// The lowest gap has room, and no lower offset has.
 pub fn lowest_is_lowest()
@@ -12,3 +14,10 @@ pub fn lowest_is_lowest()
 pub fn pool_is_apart()
     ensures { PoolIsApart }
 {}
+
+/// A pool and its pages stay together where pages are given to any owner, and where others' pages are taken back.
+pub fn pool_stays_together()
+    ensures { PoolStaysTogether }
+{
+    owned_stay();
+}

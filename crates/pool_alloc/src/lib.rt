@@ -10,6 +10,6 @@ mod refusal;
 mod tests;
 
 pub use block::Block;
-pub use laws::{lowest_is_lowest, pool_is_apart};
+pub use laws::{lowest_is_lowest, pool_is_apart, pool_stays_together};
 pub use pool::Pool;
 pub use refusal::PoolRefusal;

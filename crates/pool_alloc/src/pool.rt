@@ -88,6 +88,8 @@ impl Pool {
         requires known { may_be_given memory_type ≡ true }
         ensures gives { Gives result (on_pages self.old map.old memory_type (rounded size) (allocation map.old 0 memory_type (pages_for (rounded size)) 0)) self.old map.old self.new map.new }
         ensures together { Together self.new map.new }
+        ensures base { map.new.base ≡ map.old.base }
+        ensures length { length map.new.pages ≡ length map.old.pages }
     {
         map.whole();
         let blocks = Vec::with_capacity(*self.pages.allocator(), 1)?;
@@ -117,6 +119,8 @@ impl Pool {
         requires { Together self.old map.old }
         ensures gives { Gives result (pool_allocation self.old map.old memory_type size) self.old map.old self.new map.new }
         ensures together { Together self.new map.new }
+        ensures base { map.new.base ≡ map.old.base }
+        ensures length { length map.new.pages ≡ length map.old.pages }
     {
         if !may_be_given(memory_type) {
             return Err(PoolRefusal::Invalid);
@@ -175,6 +179,8 @@ impl Pool {
         requires { Together self.old map.old }
         ensures gives { GivesSurely result (pool_freeing self.old map.old at) self.old map.old self.new map.new }
         ensures together { Together self.new map.new }
+        ensures base { map.new.base ≡ map.old.base }
+        ensures length { length map.new.pages ≡ length map.old.pages }
     {
         map.whole();
         match self.take(at) {
