@@ -3,7 +3,7 @@ use Rattle.std.proofs.Common.{◌≡◌, ℕ, ◌+◌, ◌-◌, ◌%◌, ◌<◌
 use Rattle.std.proofs.lemmas.Bool.{cases_Bool}
 use borrow.Author.Tests.{leb-true, leb-false, le-leb, lt-leb}
 use Rattle.pe_image.specs.Numbers.{u32_at}
-use Rattle.pe_image.proofs.SoundLemmas.{both_true}
+use Rattle.base_reloc.proofs.ListLemmas.{both_true}
 use Rattle.base_reloc.specs.declared.fault.RelocFault.{RelocFault}
 use Rattle.base_reloc.specs.declared.fault.RelocFault.TheVariants as faults
 use Rattle.base_reloc.specs.declared.reading.Block.{Block}

@@ -3,7 +3,7 @@ use Rattle.std.proofs.Common.{◌≡◌, ℕ, suc, ◌+◌, ◌-◌, ◌*◌, �
 use Rattle.std.specs.Int.{cast_signed, cast_unsigned, w32, w64}
 use Rattle.std.proofs.lemmas.Bool.{cases_lt, cases_Bool}
 use borrow.Author.Tests.{leb-true, leb-false, lt-ltb, le-ltb, le-leb}
-use Rattle.pe_image.proofs.SoundLemmas.{both_true}
+use Rattle.base_reloc.proofs.ListLemmas.{both_true}
 use Rattle.base_reloc.specs.declared.site.SiteKind.{SiteKind}
 use Rattle.base_reloc.specs.declared.site.SiteKind.TheVariants.{Dir64, Highlow, High20}
 use Rattle.base_reloc.specs.Sites.{width_of}

@@ -8,7 +8,7 @@ use Rattle.std.proofs.lemmas.List.Edits.{length-between, get_or-between}
 use Rattle.std.proofs.lemmas.List.Folds.{list_any-append, Any-from_list_any, list_any_at}
 use borrow.Author.Tests.{ltb-false}
 use borrow.Rule.Slice.PartMut.{put_mid}
-use Rattle.pe_image.proofs.PlaceLemmas.{get_or-before, get_or-in, get_or-behind}
+use Rattle.base_reloc.proofs.ListLemmas.{get_or-before, get_or-in, get_or-behind}
 use Rattle.base_reloc.specs.declared.site.Site.{Site}
 use Rattle.base_reloc.specs.declared.site.SiteKind.{SiteKind}
 use Rattle.base_reloc.specs.declared.site.SiteKind.TheVariants.{Dir64, Highlow, High20}

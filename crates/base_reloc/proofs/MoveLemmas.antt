@@ -10,7 +10,7 @@ use Rattle.std.proofs.lemmas.List.{get_or-take, length-take-le, drop_more, lengt
 use Rattle.std.proofs.lemmas.List.Folds.{Any-from_list_any}
 use borrow.Rule.Slice.PartMut.{put_mid}
 use Rattle.pe_image.specs.Numbers.{u32_at, u64_at}
-use Rattle.pe_image.proofs.PlaceLemmas.{get_or-before, get_or-in, get_or-behind}
+use Rattle.base_reloc.proofs.ListLemmas.{get_or-before, get_or-in, get_or-behind}
 use Rattle.base_reloc.specs.declared.site.Site.{Site}
 use Rattle.base_reloc.specs.declared.site.SiteKind.{SiteKind}
 use Rattle.base_reloc.specs.declared.site.SiteKind.TheVariants.{Dir64, Highlow, High20}
