@@ -9,8 +9,8 @@ use Rattle.std.proofs.lemmas.List.Kept.{AllPairs-filter}
 use Rattle.std.proofs.lemmas.List.Quantifiers.{all_pairs_push}
 use Rattle.uh_base.specs.declared.guid.Guid.{Guid}
 use Rattle.handle_db.specs.declared.entry.OpenEntry.{OpenEntry}
-use Rattle.handle_db.specs.Database.{Pair, Handle, Database, same_guid, has_number, has_guid, handle_in, at_first, with_pairs, without, left_with, fresh, is_kept, is_like, once_more, noted, closed, with_opens, reopened, with_open}
-use Rattle.handle_db.specs.Calls.{installed_on, has_pair}
+use Rattle.handle_db.specs.Database.{Protocol, Handle, Database, same_guid, has_number, has_guid, handle_in, at_first, with_protocols, all_but, left_with, fresh, is_kept, is_like, once_more, noted, closed, with_opens, reopened, with_open}
+use Rattle.handle_db.specs.Calls.{installed_on, has_interface}
 use Rattle.handle_db.specs.Whole.{AreKept, IsHandle, IsDatabase}
 use Rattle.handle_db.proofs.ListLemmas.{any_both, all_at, unchanged, none_left, place_inside, kept_count, none_passes, change_some, find_none, find_some, any_none, all_at_found, pairs_at, length_at, found_has, change_found, some_left}
 
@@ -50,29 +50,32 @@ changed_is d n f h all e same there =
     }
 
 -- a new handle
-pub new_is : (d : Database) (guid : Guid) (interface : ℕ) → IsDatabase d → length d.live < 1024 → d.made < 2 ^ 60 - 1
-    → IsDatabase (record { live = d.live ++ record { number = 16 * (d.made + 1); pairs = fresh guid interface ∷ [] } ∷ []; made = d.made + 1 })
-new_is d guid interface all few made =
-    let l = length-append d.live (record { number = 16 * (d.made + 1); pairs = fresh guid interface ∷ [] } ∷ []) in
+pub first_is : (made : ℕ) (guid : Guid) (interface : ℕ) → IsHandle (made + 1) (record { number = 16 * (made + 1); protocols = fresh guid interface ∷ [] })
+first_is made guid interface = record {
+  some = omega arith;
+  apart = λ i j p l h. absurd (omega arith);
+  opens = All-cons (λ (p : Protocol). AreKept p.opens) (fresh guid interface) [] (All-nil (λ e. is_kept e ≡ true)) (All-nil (λ (p : Protocol). AreKept p.opens));
+  shown = omega arith;
+  from = omega arith;
+  to = omega arith;
+}
+
+pub new_handle_is : (d : Database) (new : Handle) → IsDatabase d → length d.live < 1024 → d.made < 2 ^ 60 - 1 → IsHandle (d.made + 1) new → new.number ≡ 16 * (d.made + 1) → IsDatabase (record { live = d.live ++ new ∷ []; made = d.made + 1 })
+new_handle_is d new all few made is n =
+    let l = length-append d.live (new ∷ []) in
     record {
       few = omega (arith, few, l);
       made = omega (arith, made);
-      handles = All-push (IsHandle (d.made + 1)) d.live _ (All-weaker (IsHandle d.made) (IsHandle (d.made + 1)) (λ h k. later d.made h k) d.live all.handles) first;
-      order = all_pairs_push (λ (a b : Handle). a.number < b.number) d.live _ all.order (λ k h in'. (let to = (all.handles k h in').to in omega (arith, to)));
+      handles = All-push (IsHandle (d.made + 1)) d.live new (All-weaker (IsHandle d.made) (IsHandle (d.made + 1)) (λ h k. later d.made h k) d.live all.handles) is;
+      order = all_pairs_push (λ (a b : Handle). a.number < b.number) d.live new all.order (λ k h in'. (let to = (all.handles k h in').to in omega (arith, to, n)));
     }
   where
     later : (made : ℕ) (h : Handle) → IsHandle made h → IsHandle (made + 1) h
     later made h all = record { some = all.some; apart = all.apart; opens = all.opens; shown = all.shown; from = all.from; to = (let to = all.to in omega (arith, to)) }
 
-    first : IsHandle (d.made + 1) (record { number = 16 * (d.made + 1); pairs = fresh guid interface ∷ [] })
-    first = record {
-      some = omega arith;
-      apart = λ i j p l h. absurd (omega arith);
-      opens = All-cons (λ (p : Pair). AreKept p.opens) (fresh guid interface) [] (All-nil (λ e. is_kept e ≡ true)) (All-nil (λ (p : Pair). AreKept p.opens));
-      shown = omega arith;
-      from = omega arith;
-      to = omega arith;
-    }
+pub new_is : (d : Database) (guid : Guid) (interface : ℕ) → IsDatabase d → length d.live < 1024 → d.made < 2 ^ 60 - 1
+    → IsDatabase (record { live = d.live ++ record { number = 16 * (d.made + 1); protocols = fresh guid interface ∷ [] } ∷ []; made = d.made + 1 })
+new_is d guid interface all few made = new_handle_is d (record { number = 16 * (d.made + 1); protocols = fresh guid interface ∷ [] }) all few made (first_is d.made guid interface) refl
 
 -- a handle that goes
 pub gone_is : (d : Database) (n : ℕ) → IsDatabase d → IsDatabase (record d { live = filter (λ h. not (has_number n h)) d.live })
@@ -84,32 +87,32 @@ gone_is d n all = record {
 }
 
 -- a handle with one protocol more
-pub added_is : (made : ℕ) (h : Handle) (guid : Guid) (interface : ℕ) → IsHandle made h → list_any (has_guid guid) h.pairs ≡ false → IsHandle made (record h { pairs = h.pairs ++ fresh guid interface ∷ [] })
+pub added_is : (made : ℕ) (h : Handle) (guid : Guid) (interface : ℕ) → IsHandle made h → list_any (has_guid guid) h.protocols ≡ false → IsHandle made (record h { protocols = h.protocols ++ fresh guid interface ∷ [] })
 added_is made h guid interface all none = record {
-  some = (let l = length-append h.pairs (fresh guid interface ∷ []) in omega (arith, l));
-  apart = all_pairs_push (λ (p q : Pair). same_guid p.guid q.guid ≡ false) h.pairs (fresh guid interface) all.apart (λ k d l. none_passes (has_guid guid) h.pairs k d l none);
-  opens = All-push (λ (p : Pair). AreKept p.opens) h.pairs (fresh guid interface) all.opens (All-nil (λ e. is_kept e ≡ true));
+  some = (let l = length-append h.protocols (fresh guid interface ∷ []) in omega (arith, l));
+  apart = all_pairs_push (λ (p q : Protocol). same_guid p.guid q.guid ≡ false) h.protocols (fresh guid interface) all.apart (λ k d l. none_passes (has_guid guid) h.protocols k d l none);
+  opens = All-push (λ (p : Protocol). AreKept p.opens) h.protocols (fresh guid interface) all.opens (All-nil (λ e. is_kept e ≡ true));
   shown = all.shown;
   from = all.from;
   to = all.to;
 }
 
 -- a handle with one protocol less
-pub less_is : (made : ℕ) (h : Handle) (guid : Guid) → IsHandle made h → list_all (has_guid guid) h.pairs ≡ false → IsHandle made (record h { pairs = without guid h.pairs })
+pub less_is : (made : ℕ) (h : Handle) (guid : Guid) → IsHandle made h → list_all (has_guid guid) h.protocols ≡ false → IsHandle made (record h { protocols = all_but guid h.protocols })
 less_is made h guid all some = record {
-  some = some_left (has_guid guid) h.pairs some;
-  apart = AllPairs-filter (λ (p q : Pair). same_guid p.guid q.guid ≡ false) (λ p. not (has_guid guid p)) h.pairs all.apart;
-  opens = All-filter (λ p. not (has_guid guid p)) (λ (p : Pair). AreKept p.opens) h.pairs all.opens;
+  some = some_left (has_guid guid) h.protocols some;
+  apart = AllPairs-filter (λ (p q : Protocol). same_guid p.guid q.guid ≡ false) (λ p. not (has_guid guid p)) h.protocols all.apart;
+  opens = All-filter (λ p. not (has_guid guid p)) (λ (p : Protocol). AreKept p.opens) h.protocols all.opens;
   shown = all.shown;
   from = all.from;
   to = all.to;
 }
 
-pub left_some : (d : Database) (n : ℕ) (ps : List Pair) → 0 < length ps → left_with d n ps ≡ with_pairs d n ps
+pub left_some : (d : Database) (n : ℕ) (ps : List Protocol) → 0 < length ps → left_with d n ps ≡ with_protocols d n ps
 left_some d n [] h = absurd (omega arith)
 left_some d n (p ∷ ps) h = refl
 
-pub left_none : (d : Database) (n : ℕ) (ps : List Pair) → ps ≡ [] → left_with d n ps ≡ record d { live = filter (λ h. not (has_number n h)) d.live }
+pub left_none : (d : Database) (n : ℕ) (ps : List Protocol) → ps ≡ [] → left_with d n ps ≡ record d { live = filter (λ h. not (has_number n h)) d.live }
 left_none d n ps e = rw e refl
 
 -- what a call reads and writes at a place
@@ -128,26 +131,26 @@ pub read_is : (d : Database) (live : List Handle) (made i : ℕ) (x e : Handle) 
 read_is d live made i x e is h read = read ∙ get_or_default live i x e h ∙ ap (λ (b : Database). get_or b.live i e) is
 
 pub inside : (d : Database) (n i : ℕ) (live : List Handle) (made : ℕ) → record { live = live; made = made } ≡ d → position (has_number n) d.live ≡ Some i → i < length live
-inside d n i live made e p = let h = place_inside (has_number n) d.live i (record { number = 0; pairs = [] }) p in let l = ap (λ (b : Database). length b.live) e in omega (arith, h, l)
+inside d n i live made e p = let h = place_inside (has_number n) d.live i (record { number = 0; protocols = [] }) p in let l = ap (λ (b : Database). length b.live) e in omega (arith, h, l)
 
 pub read_some : (d : Database) (n i : ℕ) (live : List Handle) (made : ℕ) (x : Handle) → record { live = live; made = made } ≡ d → position (has_number n) d.live ≡ Some i → x ≡ get_or live i x → handle_in d n ≡ Some x
 read_some d n i live made x e p is = handle_some d n i x p ∙ ap Some (sym (read_is d live made i x x e (inside d n i live made e p) is))
 
-pub pairs_write : (g : List Pair → List Pair) (d : Database) (n i : ℕ) (live : List Handle) (made : ℕ) (x y : Handle) → record { live = live; made = made } ≡ d → position (has_number n) d.live ≡ Some i → x ≡ get_or live i x → y ≡ record x { pairs = g x.pairs }
-    → IsDatabase d → (IsHandle d.made x → IsHandle d.made (record x { pairs = g x.pairs })) → IsDatabase (record { live = set live i y; made = made })
-pairs_write g d n i live made x y e p is m all there =
+pub protocols_write : (g : List Protocol → List Protocol) (d : Database) (n i : ℕ) (live : List Handle) (made : ℕ) (x y : Handle) → record { live = live; made = made } ≡ d → position (has_number n) d.live ≡ Some i → x ≡ get_or live i x → y ≡ record x { protocols = g x.protocols }
+    → IsDatabase d → (IsHandle d.made x → IsHandle d.made (record x { protocols = g x.protocols })) → IsDatabase (record { live = set live i y; made = made })
+protocols_write g d n i live made x y e p is m all there =
     let found = read_some d n i live made x e p is in
-    subst IsDatabase (sym (write_is d n i (λ h. record h { pairs = g h.pairs }) live made x y e p is m))
-    (changed_is d n (λ h. record h { pairs = g h.pairs }) x all found (λ h. refl) (there (handle_is d n x all found)))
+    subst IsDatabase (sym (write_is d n i (λ h. record h { protocols = g h.protocols }) live made x y e p is m))
+    (changed_is d n (λ h. record h { protocols = g h.protocols }) x all found (λ h. refl) (there (handle_is d n x all found)))
 
-pub pairs_view : (g : List Pair → List Pair) (d : Database) (n i : ℕ) (live : List Handle) (made : ℕ) (x y : Handle) → record { live = live; made = made } ≡ d → position (has_number n) d.live ≡ Some i → x ≡ get_or live i x → y ≡ record x { pairs = g x.pairs }
-    → (z : Handle) → record { live = set live i y; made = made } ≡ with_pairs d n (g (get_or d.live i z).pairs)
+pub protocols_view : (g : List Protocol → List Protocol) (d : Database) (n i : ℕ) (live : List Handle) (made : ℕ) (x y : Handle) → record { live = live; made = made } ≡ d → position (has_number n) d.live ≡ Some i → x ≡ get_or live i x → y ≡ record x { protocols = g x.protocols }
+    → (z : Handle) → record { live = set live i y; made = made } ≡ with_protocols d n (g (get_or d.live i z).protocols)
 unfolding handle_in
-pairs_view g d n i live made x y e p is m z =
+protocols_view g d n i live made x y e p is m z =
     let found = read_some d n i live made x e p is in
     let there = read_is d live made i x z e (inside d n i live made e p) is in
-    write_is d n i (λ h. record h { pairs = g h.pairs }) live made x y e p is m
-    ∙ ap (λ hs. record d { live = hs }) (change_found (has_number n) (λ h. record h { pairs = g h.pairs }) (λ h. record h { pairs = g (get_or d.live i z).pairs }) d.live x found (ap (λ (h : Handle). record x { pairs = g h.pairs }) there))
+    write_is d n i (λ h. record h { protocols = g h.protocols }) live made x y e p is m
+    ∙ ap (λ hs. record d { live = hs }) (change_found (has_number n) (λ h. record h { protocols = g h.protocols }) (λ h. record h { protocols = g (get_or d.live i z).protocols }) d.live x found (ap (λ (h : Handle). record x { protocols = g h.protocols }) there))
 
 -- a handle that is taken away whole
 pub gone_view : (d : Database) (n : ℕ) (live kept : List Handle) (made : ℕ) → record { live = live; made = made } ≡ d → kept ≡ filter (λ h. not (has_number n h)) live → record { live = kept; made = made } ≡ record d { live = filter (λ h. not (has_number n h)) d.live }
@@ -158,8 +161,8 @@ gone_write d n live kept made e k all =
     subst IsDatabase (sym (gone_view d n live kept made e k)) (gone_is d n all)
 
 -- a new handle that is written
-pub new_write : (live reserved after : List Handle) (made : ℕ) (guid : Guid) (interface : ℕ) (h : Handle) (p : Pair) → IsDatabase (record { live = live; made = made }) → length live < 1024 → made < 2 ^ 60 - 1
-    → reserved ≡ live → after ≡ reserved ++ h ∷ [] → h ≡ record { number = 16 * (made + 1); pairs = p ∷ [] } → p ≡ fresh guid interface → IsDatabase (record { live = after; made = made + 1 })
+pub new_write : (live reserved after : List Handle) (made : ℕ) (guid : Guid) (interface : ℕ) (h : Handle) (p : Protocol) → IsDatabase (record { live = live; made = made }) → length live < 1024 → made < 2 ^ 60 - 1
+    → reserved ≡ live → after ≡ reserved ++ h ∷ [] → h ≡ record { number = 16 * (made + 1); protocols = p ∷ [] } → p ≡ fresh guid interface → IsDatabase (record { live = after; made = made + 1 })
 new_write live reserved after made guid interface h p all few less e f g k =
     rw f (rw e (rw g (rw k (new_is (record { live = live; made = made }) guid interface all few less))))
 
@@ -172,31 +175,31 @@ pub test_there : (t : Handle → Bool) (d : Database) (n i : ℕ) (live : List H
 test_there t d n i live made x z r b e p is tests so =
     ap t (sym (read_is d live made i x z e (inside d n i live made e p) is)) ∙ sym tests ∙ so
 
-pub installed_there : (d after : Database) (n i : ℕ) (guid : Guid) (interface : ℕ) (h : Handle) → handle_in d n ≡ Some h → list_any (has_guid guid) h.pairs ≡ false → after ≡ with_pairs d n (h.pairs ++ fresh guid interface ∷ [])
+pub installed_there : (d after : Database) (n i : ℕ) (guid : Guid) (interface : ℕ) (h : Handle) → handle_in d n ≡ Some h → list_any (has_guid guid) h.protocols ≡ false → after ≡ with_protocols d n (h.protocols ++ fresh guid interface ∷ [])
     → installed_on d n guid interface (handle_in d n) ≡ Ok (record { handle = n; database = after })
 installed_there d after n i guid interface h found none e = rw found (rw none (rw e refl))
 
 -- a handle with another interface for a GUID of its own
-pub renewed_is : (made : ℕ) (h : Handle) (guid : Guid) (interface : ℕ) → IsHandle made h → IsHandle made (record h { pairs = without guid h.pairs ++ fresh guid interface ∷ [] })
+pub renewed_is : (made : ℕ) (h : Handle) (guid : Guid) (interface : ℕ) → IsHandle made h → IsHandle made (record h { protocols = all_but guid h.protocols ++ fresh guid interface ∷ [] })
 renewed_is made h guid interface all = record {
-  some = (let l = length-append (without guid h.pairs) (fresh guid interface ∷ []) in omega (arith, l));
-  apart = all_pairs_push (λ (p q : Pair). same_guid p.guid q.guid ≡ false) (without guid h.pairs) (fresh guid interface)
-      (AllPairs-filter (λ (p q : Pair). same_guid p.guid q.guid ≡ false) (λ p. not (has_guid guid p)) h.pairs all.apart) (λ k d l. none_passes (has_guid guid) (without guid h.pairs) k d l (none_left (has_guid guid) h.pairs));
-  opens = All-push (λ (p : Pair). AreKept p.opens) (without guid h.pairs) (fresh guid interface) (All-filter (λ p. not (has_guid guid p)) (λ (p : Pair). AreKept p.opens) h.pairs all.opens) (All-nil (λ e. is_kept e ≡ true));
+  some = (let l = length-append (all_but guid h.protocols) (fresh guid interface ∷ []) in omega (arith, l));
+  apart = all_pairs_push (λ (p q : Protocol). same_guid p.guid q.guid ≡ false) (all_but guid h.protocols) (fresh guid interface)
+      (AllPairs-filter (λ (p q : Protocol). same_guid p.guid q.guid ≡ false) (λ p. not (has_guid guid p)) h.protocols all.apart) (λ k d l. none_passes (has_guid guid) (all_but guid h.protocols) k d l (none_left (has_guid guid) h.protocols));
+  opens = All-push (λ (p : Protocol). AreKept p.opens) (all_but guid h.protocols) (fresh guid interface) (All-filter (λ p. not (has_guid guid p)) (λ (p : Protocol). AreKept p.opens) h.protocols all.opens) (All-nil (λ e. is_kept e ≡ true));
   shown = all.shown;
   from = all.from;
   to = all.to;
 }
 
 -- a handle with other opens
-pub opens_is : (made : ℕ) (h : Handle) (guid : Guid) (f : List OpenEntry → List OpenEntry) → ((opens : List OpenEntry) → AreKept opens → AreKept (f opens)) → IsHandle made h → IsHandle made (record h { pairs = with_opens guid f h.pairs })
+pub opens_is : (made : ℕ) (h : Handle) (guid : Guid) (f : List OpenEntry → List OpenEntry) → ((opens : List OpenEntry) → AreKept opens → AreKept (f opens)) → IsHandle made h → IsHandle made (record h { protocols = with_opens guid f h.protocols })
 opens_is made h guid f keeps all =
-    let l = length_at (has_guid guid) (λ p. record p { opens = f p.opens }) h.pairs in
+    let l = length_at (has_guid guid) (λ p. record p { opens = f p.opens }) h.protocols in
     let some = all.some in
     record {
       some = omega (arith, some, l);
-      apart = pairs_at (λ a b. same_guid a b ≡ false) (λ (p : Pair). p.guid) (has_guid guid) (λ p. record p { opens = f p.opens }) (λ p. refl) h.pairs all.apart;
-      opens = all_at (λ (p : Pair). AreKept p.opens) (has_guid guid) (λ p. record p { opens = f p.opens }) h.pairs (λ p k. keeps p.opens k) all.opens;
+      apart = pairs_at (λ a b. same_guid a b ≡ false) (λ (p : Protocol). p.guid) (has_guid guid) (λ p. record p { opens = f p.opens }) (λ p. refl) h.protocols all.apart;
+      opens = all_at (λ (p : Protocol). AreKept p.opens) (has_guid guid) (λ p. record p { opens = f p.opens }) h.protocols (λ p k. keeps p.opens k) all.opens;
       shown = all.shown;
       from = all.from;
       to = all.to;
@@ -213,18 +216,18 @@ pub closed_kept : (agent controller : ℕ) (opens : List OpenEntry) → AreKept 
 closed_kept agent controller opens all = All-filter (λ e. not (e.agent == agent && e.controller == controller)) (λ e. is_kept e ≡ true) opens all
 
 pub opens_view : (f : List OpenEntry → List OpenEntry) (guid : Guid) (d : Database) (n i : ℕ) (live : List Handle) (made : ℕ) (x y : Handle) → record { live = live; made = made } ≡ d → position (has_number n) d.live ≡ Some i → x ≡ get_or live i x
-    → y ≡ record x { pairs = with_opens guid f x.pairs } → record { live = set live i y; made = made } ≡ reopened d n guid f
+    → y ≡ record x { protocols = with_opens guid f x.protocols } → record { live = set live i y; made = made } ≡ reopened d n guid f
 unfolding reopened
-opens_view f guid d n i live made x y e p is m = write_is d n i (λ h. record h { pairs = with_opens guid f h.pairs }) live made x y e p is m
+opens_view f guid d n i live made x y e p is m = write_is d n i (λ h. record h { protocols = with_opens guid f h.protocols }) live made x y e p is m
 
 pub opens_gone : (f : List OpenEntry → List OpenEntry) (guid : Guid) (d : Database) (n : ℕ) → handle_in d n ≡ None → reopened d n guid f ≡ d
 unfolding handle_in reopened
-opens_gone f guid d n e = ap (λ hs. record d { live = hs }) (unchanged (has_number n) (λ h. record h { pairs = with_opens guid f h.pairs }) d.live e)
+opens_gone f guid d n e = ap (λ hs. record d { live = hs }) (unchanged (has_number n) (λ h. record h { protocols = with_opens guid f h.protocols }) d.live e)
 
-pub has_there : (d : Database) (n i : ℕ) (guid : Guid) (interface : ℕ) (live : List Handle) (made : ℕ) (x : Handle) (r : Bool) → record { live = live; made = made } ≡ d → position (has_number n) d.live ≡ Some i → x ≡ get_or live i x → r ≡ has_pair guid interface x → r ≡ true
-    → (z : Handle) → list_any (has_guid guid) (get_or d.live i z).pairs ≡ true
+pub has_there : (d : Database) (n i : ℕ) (guid : Guid) (interface : ℕ) (live : List Handle) (made : ℕ) (x : Handle) (r : Bool) → record { live = live; made = made } ≡ d → position (has_number n) d.live ≡ Some i → x ≡ get_or live i x → r ≡ has_interface guid interface x → r ≡ true
+    → (z : Handle) → list_any (has_guid guid) (get_or d.live i z).protocols ≡ true
 has_there d n i guid interface live made x r e p is tests so z =
-    any_both (has_guid guid) (λ q. q.interface == interface) (get_or d.live i z).pairs (test_there (λ h. has_pair guid interface h) d n i live made x z r true e p is tests so)
+    any_both (has_guid guid) (λ q. q.interface == interface) (get_or d.live i z).protocols (test_there (λ h. has_interface guid interface h) d n i live made x z r true e p is tests so)
 
 pub no_open : (entry : OpenEntry) (guid : Guid) (d : Database) (n : ℕ) → handle_in d n ≡ None → d ≡ with_open d n guid entry
 no_open entry guid d n e = by (is_kept entry)

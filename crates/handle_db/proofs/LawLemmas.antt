@@ -4,8 +4,8 @@ use Rattle.std.specs.Prelude.{Option, Some, None, Ok, Err, if◌then◌else◌, 
 use Rattle.std.specs.List.{find, filter, list_any, All}
 use Rattle.uh_base.specs.declared.guid.Guid.{Guid}
 use Rattle.std.proofs.lemmas.Bool.Decides.{nat_tests}
-use Rattle.handle_db.specs.Database.{Pair, Handle, Database, same_guid, has_number, has_guid, handle_in, pair_on, pair_in, at_first, with_pairs, without, left_with, fresh}
-use Rattle.handle_db.specs.Calls.{Done, is_full, with_handle, has_pair, installation, removal, removed_from, replacement, replaced_on, discarded, discarded_on}
+use Rattle.handle_db.specs.Database.{Protocol, Handle, Database, same_guid, has_number, has_guid, handle_in, protocol_on, protocol_in, at_first, with_protocols, all_but, left_with, fresh}
+use Rattle.handle_db.specs.Calls.{Done, is_full, with_handle, has_interface, installation, removal, removed_from, replacement, replaced_on, discarded, discarded_on}
 use Rattle.handle_db.specs.declared.refusal.HandleRefusal.TheVariants.{NotFound, Full}
 use Rattle.handle_db.specs.Whole.{IsDatabase}
 use Rattle.handle_db.specs.Laws.{SameIsEqual, NewIsNew, RemovedIsGone, ReplacedIsFresh, DiscardedIsGone}
@@ -54,21 +54,21 @@ found_at test f (y ∷ ys) x same e = by (test y) refl e (found_at test f ys x s
 gone : {X : Type 0} (test : X → Bool) (xs : List X) → find test (filter (λ x. not (test x)) xs) ≡ None
 gone test xs = find_none test (filter (λ x. not (test x)) xs) (none_left test xs)
 
-pairs_found : (d : Database) (n : ℕ) (h : Handle) (ps : List Pair) → handle_in d n ≡ Some h → handle_in (with_pairs d n ps) n ≡ Some (record h { pairs = ps })
+pub protocols_found : (d : Database) (n : ℕ) (h : Handle) (ps : List Protocol) → handle_in d n ≡ Some h → handle_in (with_protocols d n ps) n ≡ Some (record h { protocols = ps })
 unfolding handle_in
-pairs_found d n h ps e = found_at (has_number n) (λ g. record g { pairs = ps }) d.live h (λ g. refl) e
+protocols_found d n h ps e = found_at (has_number n) (λ g. record g { protocols = ps }) d.live h (λ g. refl) e
 
-left_is : (d : Database) (n : ℕ) (guid : Guid) (h : Handle) (ps : List Pair) → handle_in d n ≡ Some h → find (has_guid guid) ps ≡ None → pair_in (left_with d n ps) n guid ≡ None
-unfolding handle_in pair_on
+left_is : (d : Database) (n : ℕ) (guid : Guid) (h : Handle) (ps : List Protocol) → handle_in d n ≡ Some h → find (has_guid guid) ps ≡ None → protocol_in (left_with d n ps) n guid ≡ None
+unfolding handle_in protocol_on
 left_is d n guid h [] e none = rw (gone (has_number n) d.live) refl
-left_is d n guid h (p ∷ ps) e none = rw (pairs_found d n h (p ∷ ps) e) none
+left_is d n guid h (p ∷ ps) e none = rw (protocols_found d n h (p ∷ ps) e) none
 
-removed_by : (d new : Database) (n : ℕ) (guid : Guid) (interface : ℕ) (o : Option Handle) → handle_in d n ≡ o → removed_from d n guid interface o ≡ Ok new → pair_in new n guid ≡ None
+removed_by : (d new : Database) (n : ℕ) (guid : Guid) (interface : ℕ) (o : Option Handle) → handle_in d n ≡ o → removed_from d n guid interface o ≡ Ok new → protocol_in new n guid ≡ None
 removed_by d new n guid interface None e h = absurd (cc)
-removed_by d new n guid interface (Some handle) e h = by (has_pair guid interface handle) h
+removed_by d new n guid interface (Some handle) e h = by (has_interface guid interface handle) h
   where
-    by : (b : Bool) → (if b then Ok (left_with d n (without guid handle.pairs)) else Err NotFound) ≡ Ok new → pair_in new n guid ≡ None
-    by true k = let is : left_with d n (without guid handle.pairs) ≡ new = cc in subst (λ (it : Database). pair_in it n guid ≡ None) is (left_is d n guid handle (without guid handle.pairs) e (gone (has_guid guid) handle.pairs))
+    by : (b : Bool) → (if b then Ok (left_with d n (all_but guid handle.protocols)) else Err NotFound) ≡ Ok new → protocol_in new n guid ≡ None
+    by true k = let is : left_with d n (all_but guid handle.protocols) ≡ new = cc in subst (λ (it : Database). protocol_in it n guid ≡ None) is (left_is d n guid handle (all_but guid handle.protocols) e (gone (has_guid guid) handle.protocols))
     by false k = absurd (cc)
 
 pub removed_is_gone : RemovedIsGone
@@ -81,7 +81,7 @@ same_itself a = rw (itself a.d1) (rw (itself a.d2) (rw (itself a.d3) (itself a.d
     itself : (n : ℕ) → (n == n) ≡ true
     itself n = grind (arith, nat_tests)
 
-last_found : {X : Type 0} (test : X → Bool) (xs : List X) (x : X) → list_any test xs ≡ false → test x ≡ true → find test (xs ++ x ∷ []) ≡ Some x
+pub last_found : {X : Type 0} (test : X → Bool) (xs : List X) (x : X) → list_any test xs ≡ false → test x ≡ true → find test (xs ++ x ∷ []) ≡ Some x
 last_found test [] x none t = rw t refl
 last_found test (y ∷ ys) x none t = by (test y) none (λ h. last_found test ys x h t)
   where
@@ -89,30 +89,30 @@ last_found test (y ∷ ys) x none t = by (test y) none (λ h. last_found test ys
     by true h more = absurd (cc)
     by false h more = more h
 
-replaced_by : (d after : Database) (n : ℕ) (guid : Guid) (old new : ℕ) (o : Option Handle) → handle_in d n ≡ o → replaced_on d n guid old new o ≡ Ok after → pair_in after n guid ≡ Some (fresh guid new)
-unfolding pair_on
+replaced_by : (d after : Database) (n : ℕ) (guid : Guid) (old new : ℕ) (o : Option Handle) → handle_in d n ≡ o → replaced_on d n guid old new o ≡ Ok after → protocol_in after n guid ≡ Some (fresh guid new)
+unfolding protocol_on
 replaced_by d after n guid old new None e h = absurd (cc)
-replaced_by d after n guid old new (Some handle) e h = by (has_pair guid old handle) h
+replaced_by d after n guid old new (Some handle) e h = by (has_interface guid old handle) h
   where
-    by : (b : Bool) → (if b then Ok (with_pairs d n (without guid handle.pairs ++ fresh guid new ∷ [])) else Err NotFound) ≡ Ok after → pair_in after n guid ≡ Some (fresh guid new)
+    by : (b : Bool) → (if b then Ok (with_protocols d n (all_but guid handle.protocols ++ fresh guid new ∷ [])) else Err NotFound) ≡ Ok after → protocol_in after n guid ≡ Some (fresh guid new)
     by true k =
-        let is : with_pairs d n (without guid handle.pairs ++ fresh guid new ∷ []) ≡ after = cc in
-        subst (λ (it : Database). pair_in it n guid ≡ Some (fresh guid new)) is
-        (rw (pairs_found d n handle (without guid handle.pairs ++ fresh guid new ∷ []) e) (last_found (has_guid guid) (without guid handle.pairs) (fresh guid new) (none_left (has_guid guid) handle.pairs) (same_itself guid)))
+        let is : with_protocols d n (all_but guid handle.protocols ++ fresh guid new ∷ []) ≡ after = cc in
+        subst (λ (it : Database). protocol_in it n guid ≡ Some (fresh guid new)) is
+        (rw (protocols_found d n handle (all_but guid handle.protocols ++ fresh guid new ∷ []) e) (last_found (has_guid guid) (all_but guid handle.protocols) (fresh guid new) (none_left (has_guid guid) handle.protocols) (same_itself guid)))
     by false k = absurd (cc)
 
 pub replaced_is_fresh : ReplacedIsFresh
 unfolding replacement
 replaced_is_fresh d after n guid old new e = replaced_by d after n guid old new (handle_in d n) refl e
 
-discarded_by : (d : Database) (n : ℕ) (guid : Guid) (o : Option Handle) → handle_in d n ≡ o → pair_in (discarded_on d n guid o) n guid ≡ None
-unfolding pair_on
+discarded_by : (d : Database) (n : ℕ) (guid : Guid) (o : Option Handle) → handle_in d n ≡ o → protocol_in (discarded_on d n guid o) n guid ≡ None
+unfolding protocol_on
 discarded_by d n guid None e = rw e refl
-discarded_by d n guid (Some handle) e = by (list_any (has_guid guid) handle.pairs) refl
+discarded_by d n guid (Some handle) e = by (list_any (has_guid guid) handle.protocols) refl
   where
-    by : (b : Bool) → list_any (has_guid guid) handle.pairs ≡ b → pair_in (if b then left_with d n (without guid handle.pairs) else d) n guid ≡ None
-    by true k = left_is d n guid handle (without guid handle.pairs) e (gone (has_guid guid) handle.pairs)
-    by false k = rw e (find_none (has_guid guid) handle.pairs k)
+    by : (b : Bool) → list_any (has_guid guid) handle.protocols ≡ b → protocol_in (if b then left_with d n (all_but guid handle.protocols) else d) n guid ≡ None
+    by true k = left_is d n guid handle (all_but guid handle.protocols) e (gone (has_guid guid) handle.protocols)
+    by false k = rw e (find_none (has_guid guid) handle.protocols k)
 
 pub discarded_is_gone : DiscardedIsGone
 unfolding discarded

@@ -2,4 +2,4 @@ pub mod ListLemmas
 pub mod ViewLemmas
 pub mod DatabaseLemmas
 pub mod LawLemmas
-pub mod Search
+pub mod AllLemmas

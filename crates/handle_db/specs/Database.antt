@@ -6,16 +6,16 @@ use Rattle.uh_base.specs.declared.guid.Guid.{Guid}
 pub use Rattle.uh_base.specs.Guid.{same_guid}
 use Rattle.handle_db.specs.declared.entry.OpenEntry.{OpenEntry}
 
--- one protocol on a handle: its GUID, its interface, and the record of its opens, the oldest first
-pub record Pair : Type 0 where
+-- one protocol interface on a handle: its GUID, the interface, and the entries of its opens, the oldest first
+pub record Protocol : Type 0 where
   pub guid : Guid
   pub interface : ℕ
   pub opens : List OpenEntry
 
--- a handle as it is shown, and its protocols in the order in which they were installed
+-- a handle as it is shown, and its protocol interfaces in the order in which they were installed
 pub record Handle : Type 0 where
   pub number : ℕ
-  pub pairs : List Pair
+  pub protocols : List Protocol
 
 -- the live handles in order of making, and how many were made in all
 pub record Database : Type 0 where
@@ -29,29 +29,29 @@ shown k = 16 * k
 abbrev pub has_number : ℕ → Handle → Bool
 has_number number handle = handle.number == number
 
-abbrev pub has_guid : Guid → Pair → Bool
-has_guid guid pair = same_guid pair.guid guid
+abbrev pub has_guid : Guid → Protocol → Bool
+has_guid guid protocol = same_guid protocol.guid guid
 
 -- the live handle that is shown so
 unfoldable pub handle_in : Database → ℕ → Option Handle
 handle_in d number = find (has_number number) d.live
 
 -- the protocol of a handle that has a GUID
-unfoldable pub pair_on : Guid → Option Handle → Option Pair
-pair_on guid None = None
-pair_on guid (Some handle) = find (has_guid guid) handle.pairs
+unfoldable pub protocol_on : Guid → Option Handle → Option Protocol
+protocol_on guid None = None
+protocol_on guid (Some handle) = find (has_guid guid) handle.protocols
 
-abbrev pub pair_in : Database → ℕ → Guid → Option Pair
-pair_in d number guid = pair_on guid (handle_in d number)
+abbrev pub protocol_in : Database → ℕ → Guid → Option Protocol
+protocol_in d number guid = protocol_on guid (handle_in d number)
 
 abbrev pub is_handle : Database → ℕ → Bool
 is_handle d number = is_some (handle_in d number)
 
 abbrev pub interface_in : Database → ℕ → Guid → Option ℕ
-interface_in d number guid = option_map (λ (p : Pair). p.interface) (pair_in d number guid)
+interface_in d number guid = option_map (λ (p : Protocol). p.interface) (protocol_in d number guid)
 
 abbrev pub opens_in : Database → ℕ → Guid → Option (List OpenEntry)
-opens_in d number guid = option_map (λ (p : Pair). p.opens) (pair_in d number guid)
+opens_in d number guid = option_map (λ (p : Protocol). p.opens) (protocol_in d number guid)
 
 -- the first element that passes a test is changed, and all others are as they were
 unfoldable pub at_first : {X : Type 0} → (X → Bool) → (X → X) → List X → List X
@@ -59,27 +59,27 @@ at_first test change [] = []
 at_first test change (x ∷ xs) = if test x then change x ∷ xs else x ∷ at_first test change xs
 
 -- the handle has these protocols
-abbrev pub with_pairs : Database → ℕ → List Pair → Database
-with_pairs d number pairs = record d { live = at_first (has_number number) (λ h. record h { pairs = pairs }) d.live }
+abbrev pub with_protocols : Database → ℕ → List Protocol → Database
+with_protocols d number protocols = record d { live = at_first (has_number number) (λ h. record h { protocols = protocols }) d.live }
 
 -- a protocol of the handle has its opens changed
-abbrev pub with_opens : Guid → (List OpenEntry → List OpenEntry) → List Pair → List Pair
-with_opens guid change pairs = at_first (has_guid guid) (λ p. record p { opens = change p.opens }) pairs
+abbrev pub with_opens : Guid → (List OpenEntry → List OpenEntry) → List Protocol → List Protocol
+with_opens guid change protocols = at_first (has_guid guid) (λ p. record p { opens = change p.opens }) protocols
 
 unfoldable pub reopened : Database → ℕ → Guid → (List OpenEntry → List OpenEntry) → Database
-reopened d number guid change = record d { live = at_first (has_number number) (λ h. record h { pairs = with_opens guid change h.pairs }) d.live }
+reopened d number guid change = record d { live = at_first (has_number number) (λ h. record h { protocols = with_opens guid change h.protocols }) d.live }
 
 -- the protocols but for those of a GUID
-abbrev pub without : Guid → List Pair → List Pair
-without guid pairs = filter (λ p. not (has_guid guid p)) pairs
+abbrev pub all_but : Guid → List Protocol → List Protocol
+all_but guid protocols = filter (λ p. not (has_guid guid p)) protocols
 
 -- A handle without protocols is gone.
-abbrev pub left_with : Database → ℕ → List Pair → Database
+abbrev pub left_with : Database → ℕ → List Protocol → Database
 left_with d number [] = record d { live = filter (λ h. not (has_number number h)) d.live }
-left_with d number (pair ∷ pairs) = with_pairs d number (pair ∷ pairs)
+left_with d number (protocol ∷ protocols) = with_protocols d number (protocol ∷ protocols)
 
 -- a protocol as it is installed, opened by nobody
-abbrev pub fresh : Guid → ℕ → Pair
+abbrev pub fresh : Guid → ℕ → Protocol
 fresh guid interface = record { guid = guid; interface = interface; opens = [] }
 
 -- opens that are alike
@@ -113,4 +113,4 @@ closed agent controller opens = filter (λ e. not (is_between agent controller e
 -- the live handles that have a protocol, or all
 abbrev pub supports : Option Guid → Handle → Bool
 supports None handle = true
-supports (Some guid) handle = list_any (has_guid guid) handle.pairs
+supports (Some guid) handle = list_any (has_guid guid) handle.protocols

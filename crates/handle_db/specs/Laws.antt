@@ -2,7 +2,7 @@
 use Rattle.std.specs.Prelude.{ℕ, ◌≡◌, ◌<◌, ◌*◌, ◌+◌, true, Some, None, Ok}
 use Rattle.std.specs.List.{All}
 use Rattle.uh_base.specs.declared.guid.Guid.{Guid}
-use Rattle.handle_db.specs.Database.{Handle, Database, same_guid, pair_in, fresh}
+use Rattle.handle_db.specs.Database.{Handle, Database, same_guid, protocol_in, fresh}
 use Rattle.handle_db.specs.Calls.{Done, installation, removal, replacement, discarded}
 use Rattle.handle_db.specs.Whole.{IsDatabase}
 
@@ -17,12 +17,12 @@ NewIsNew = (d : Database) (guid : Guid) (interface : ℕ) (done : Done) → IsDa
 
 -- What was taken away is not there any more, with its opens.
 abbrev pub RemovedIsGone : Type 0
-RemovedIsGone = (d new : Database) (number : ℕ) (guid : Guid) (interface : ℕ) → removal d number guid interface ≡ Ok new → pair_in new number guid ≡ None
+RemovedIsGone = (d new : Database) (number : ℕ) (guid : Guid) (interface : ℕ) → removal d number guid interface ≡ Ok new → protocol_in new number guid ≡ None
 
 -- What was put in another's place is there, opened by nobody.
 abbrev pub ReplacedIsFresh : Type 0
-ReplacedIsFresh = (d after : Database) (number : ℕ) (guid : Guid) (old new : ℕ) → replacement d number guid old new ≡ Ok after → pair_in after number guid ≡ Some (fresh guid new)
+ReplacedIsFresh = (d after : Database) (number : ℕ) (guid : Guid) (old new : ℕ) → replacement d number guid old new ≡ Ok after → protocol_in after number guid ≡ Some (fresh guid new)
 
 -- What was discarded is not there any more, with its opens.
 abbrev pub DiscardedIsGone : Type 0
-DiscardedIsGone = (d : Database) (number : ℕ) (guid : Guid) → pair_in (discarded d number guid) number guid ≡ None
+DiscardedIsGone = (d : Database) (number : ℕ) (guid : Guid) → protocol_in (discarded d number guid) number guid ≡ None

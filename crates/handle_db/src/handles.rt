@@ -2,20 +2,20 @@
 #![tactic(auto)]
 
 ghost use Rattle.std.specs.Prelude.{◌≡◌, ◌<◌, ◌==◌, ◌++◌, ◌∷◌, [], true, IfOk, OnOk, OnErr, IfSome, IfNone, map, length, Some, None, position, slice_set, slice_index_or};
-ghost use Rattle.std.specs.List.{list_any};
+ghost use Rattle.std.specs.List.{find, list_any};
 ghost use Rattle.std.specs.Option.{option_copied, option_map};
 ghost use Rattle.uh_base.specs.declared.guid.Guid.{Guid as AnyGuid};
 ghost use Rattle.handle_db.specs.Whole.{IsDatabase};
-ghost use Rattle.handle_db.specs.Database.{Handle, Database, has_number, handle_in, pair_in, is_handle, interface_in, opens_in, reopened, noted, closed, is_kept, left_with, without, with_pairs, with_open, fresh, has_guid};
-ghost use Rattle.handle_db.specs.Calls.{installed_new, installed_on, installation, removal, replacement, has_pair_in, discarded, next_in, handles_with, guids_in, InstallGives, ChangeGives};
+ghost use Rattle.handle_db.specs.Database.{Handle, Database, has_number, handle_in, protocol_in, is_handle, interface_in, opens_in, reopened, noted, closed, is_kept, left_with, all_but, with_protocols, with_open, fresh, has_guid, supports};
+ghost use Rattle.handle_db.specs.Calls.{installed_new, installed_on, installation, removal, replacement, has_interface_in, discarded, next_in, handles_with, first_with, guids_in, installation_of_all, InstallGives, AllGives, ChangeGives};
 
 use crate::entry::OpenEntry;
-use crate::handle::HandleEntry;
-use crate::pair::PairEntry;
+use crate::handle::LiveHandle;
+use crate::protocol::ProtocolInterface;
 use crate::refusal::HandleRefusal;
 use std::alloc::{AllocError, Global};
 use std::marker::Model;
-use uh_base::Guid;
+use uh_base::{Guid, Numbered, place_of};
 
 /// The most handles that live at a time.
 const MOST_LIVE: usize = 1024;
@@ -27,7 +27,7 @@ const MOST_MADE: u64 = (1 << 60) - 1;
 /// 16k, and no number is used again.
 #[derive(Drop)]
 pub struct Handles {
-    live: Vec<HandleEntry>,
+    live: Vec<LiveHandle>,
     made: u64,
 }
 
@@ -62,7 +62,7 @@ impl Handles {
 
     /// The live handle that is shown so.
     #[tactic(auto, unfolding(crate::specs::Database::handle_in))]
-    fn find(&self, handle: u64) -> Option<&HandleEntry>
+    fn find(&self, handle: u64) -> Option<&LiveHandle>
         ensures { option_copied result ≡ handle_in self.now handle }
     {
         match self.position(handle) {
@@ -75,13 +75,7 @@ impl Handles {
     fn position(&self, handle: u64) -> Option<usize>
         ensures { result ≡ position (has_number handle) self.now.live }
     {
-        match self
-            .live
-            .binary_search_by_key(&handle, |entry| entry.number())
-        {
-            Ok(place) => Some(place),
-            Err(_) => None,
-        }
+        place_of(&self.live, handle)
     }
 
     /// The place of the live handle that is shown so, and what stands there.
@@ -101,41 +95,41 @@ impl Handles {
     }
 
     /// The protocol of a handle by a GUID. None for an unknown handle, and where it hasn't the GUID.
-    #[tactic(auto, unfolding(crate::specs::Database::pair_on))]
-    pub fn find_pair(&self, handle: u64, guid: &Guid) -> Option<&PairEntry>
-        ensures { option_copied result ≡ pair_in self.now handle guid.now }
+    #[tactic(auto, unfolding(crate::specs::Database::protocol_on))]
+    pub fn find_protocol(&self, handle: u64, guid: &Guid) -> Option<&ProtocolInterface>
+        ensures { option_copied result ≡ protocol_in self.now handle guid.now }
     {
         match self.find(handle) {
             None => None,
-            Some(entry) => entry.pair(guid),
+            Some(live) => live.protocol(guid),
         }
     }
 
     /// The interface of a handle by a GUID. None for an unknown handle, and where it hasn't the GUID.
-    #[tactic(auto, unfolding(crate::specs::Database::pair_on))]
+    #[tactic(auto, unfolding(crate::specs::Database::protocol_on))]
     pub fn interface(&self, handle: u64, guid: &Guid) -> Option<u64>
         ensures { result ≡ interface_in self.now handle guid.now }
     {
         match self.find(handle) {
             None => None,
-            Some(entry) => match entry.pair(guid) {
+            Some(live) => match live.protocol(guid) {
                 None => None,
-                Some(pair) => Some(pair.interface()),
+                Some(protocol) => Some(protocol.interface()),
             },
         }
     }
 
     /// Who opened a protocol of a handle, the oldest entry first. None for an unknown handle, and where it hasn't the
     /// GUID.
-    #[tactic(auto, unfolding(crate::specs::Database::pair_on))]
+    #[tactic(auto, unfolding(crate::specs::Database::protocol_on))]
     pub fn opens(&self, handle: u64, guid: &Guid) -> Option<&[OpenEntry]>
         ensures { option_copied result ≡ opens_in self.now handle guid.now }
     {
         match self.find(handle) {
             None => None,
-            Some(entry) => match entry.pair(guid) {
+            Some(live) => match live.protocol(guid) {
                 None => None,
-                Some(pair) => Some(pair.opens()),
+                Some(protocol) => Some(protocol.opens()),
             },
         }
     }
@@ -148,12 +142,12 @@ impl Handles {
             return Err(HandleRefusal::Full);
         }
         let alloc = *self.live.allocator();
-        let pairs = Vec::with_capacity(alloc, 1)?;
+        let protocols = Vec::with_capacity(alloc, 1)?;
         self.live.reserve(1)?;
         let number = 16 * (self.made + 1);
-        let pair = PairEntry::new(alloc, guid, interface);
+        let protocol = ProtocolInterface::new(alloc, guid, interface);
         self.live
-            .push_reserved(HandleEntry::new(number, pairs, pair));
+            .push_reserved(LiveHandle::new(number, protocols, protocol));
         self.made += 1;
         Ok(number)
     }
@@ -191,13 +185,75 @@ impl Handles {
         }
     }
 
+    /// A new handle with protocol interfaces, one for each pair.
+    fn add_all(&mut self, pairs: &[(Guid, u64)]) -> Result<Option<u64>, HandleRefusal>
+        requires { 0 < length pairs.now }
+        ensures { AllGives result (installation_of_all self.old None pairs.now) self.old self.new }
+    {
+        if self.live.len() >= MOST_LIVE || self.made >= MOST_MADE {
+            return Err(HandleRefusal::Full);
+        }
+        let alloc = *self.live.allocator();
+        self.live.reserve(1)?;
+        let shown = 16 * (self.made + 1);
+        let mut live = LiveHandle::empty(alloc, shown);
+        match live.add_all(alloc, pairs) {
+            Ok(()) => {
+                self.live.push_reserved(live);
+                self.made += 1;
+                Ok(Some(shown))
+            }
+            Err(refusal) => Err(refusal),
+        }
+    }
+
+    /// More protocol interfaces on a handle, one for each pair.
+    fn add_all_to(
+        &mut self,
+        handle: u64,
+        pairs: &[(Guid, u64)],
+    ) -> Result<Option<u64>, HandleRefusal>
+        requires { 0 < length pairs.now }
+        ensures { AllGives result (installation_of_all self.old (Some handle) pairs.now) self.old self.new }
+    {
+        let alloc = *self.live.allocator();
+        let Some(place) = self.place(handle) else {
+            return Err(HandleRefusal::Invalid);
+        };
+        match self.live[place].add_all(alloc, pairs) {
+            Ok(()) => Ok(Some(handle)),
+            Err(refusal) => Err(refusal),
+        }
+    }
+
+    /// Installs protocol interfaces, pairs of a GUID and an interface, one after another as `install` does, all on one
+    /// handle or on one new handle, or none of them (InstallMultipleProtocolInterfaces of UEFI 2.10, section 7.3), and
+    /// answers the handle. Without a pair that is the handle that was given, whatever it is. The refusal is that of the
+    /// first pair that is refused.
+    #[tactic(auto, unfolding(crate::specs::Calls::installation_of_all))]
+    pub fn install_all(
+        &mut self,
+        handle: Option<u64>,
+        pairs: &[(Guid, u64)],
+    ) -> Result<Option<u64>, HandleRefusal>
+        ensures { AllGives result (installation_of_all self.old handle pairs.now) self.old self.new }
+    {
+        if pairs.is_empty() {
+            return Ok(handle);
+        }
+        match handle {
+            None => self.add_all(pairs),
+            Some(handle) => self.add_all_to(handle, pairs),
+        }
+    }
+
     /// The handle at a place loses its protocol of a GUID, with the opens of it.
     fn take(&mut self, place: usize, handle: u64, guid: &Guid)
         requires { position (has_number handle) self.old.live ≡ Some place }
-        ensures { (d : Handle) → self.new ≡ left_with self.old handle (without guid.now (slice_index_or self.old.live place d).pairs) }
+        ensures { (d : Handle) → self.new ≡ left_with self.old handle (all_but guid.now (slice_index_or self.old.live place d).protocols) }
     {
         if self.live[place].has_only(guid) {
-            self.live.retain(|entry| entry.number() != handle);
+            self.live.retain(|live| live.number() != handle);
         } else {
             self.live[place].remove(guid);
         }
@@ -216,13 +272,13 @@ impl Handles {
     }
 
     /// Whether a live handle has this interface by this GUID. Just then `remove` takes it away.
-    #[tactic(auto, unfolding(crate::specs::Calls::has_pair_in))]
-    pub fn has_pair(&self, handle: u64, guid: &Guid, interface: u64) -> bool
-        ensures { result ≡ has_pair_in self.now handle guid.now interface }
+    #[tactic(auto, unfolding(crate::specs::Calls::has_interface_in))]
+    pub fn has_interface(&self, handle: u64, guid: &Guid, interface: u64) -> bool
+        ensures { result ≡ has_interface_in self.now handle guid.now interface }
     {
         match self.find(handle) {
             None => false,
-            Some(entry) => entry.has_pair(guid, interface),
+            Some(live) => live.has_interface(guid, interface),
         }
     }
 
@@ -240,8 +296,8 @@ impl Handles {
     /// The handle at a place has another interface for a GUID of its own, which stands last and which nobody has opened.
     fn renew(&mut self, place: usize, handle: u64, guid: &Guid, interface: u64)
         requires place { position (has_number handle) self.old.live ≡ Some place }
-        requires has { (d : Handle) → list_any (has_guid guid.now) (slice_index_or self.old.live place d).pairs ≡ true }
-        ensures { (d : Handle) → self.new ≡ with_pairs self.old handle (without guid.now (slice_index_or self.old.live place d).pairs ++ fresh guid.now interface ∷ []) }
+        requires has { (d : Handle) → list_any (has_guid guid.now) (slice_index_or self.old.live place d).protocols ≡ true }
+        ensures { (d : Handle) → self.new ≡ with_protocols self.old handle (all_but guid.now (slice_index_or self.old.live place d).protocols ++ fresh guid.now interface ∷ []) }
     {
         let alloc = *self.live.allocator();
         self.live[place].renew(alloc, guid, interface);
@@ -282,7 +338,7 @@ impl Handles {
         let Some(place) = self.place(handle) else {
             return Err(HandleRefusal::Invalid);
         };
-        if !self.live[place].has_pair(guid, interface) {
+        if !self.live[place].has_interface(guid, interface) {
             return Err(HandleRefusal::NotFound);
         }
         self.take(place, handle, guid);
@@ -305,7 +361,7 @@ impl Handles {
         let Some(place) = self.place(handle) else {
             return Err(HandleRefusal::Invalid);
         };
-        if !self.live[place].has_pair(guid, old) {
+        if !self.live[place].has_interface(guid, old) {
             return Err(HandleRefusal::NotFound);
         }
         self.renew(place, handle, guid, new);
@@ -348,12 +404,30 @@ impl Handles {
         ensures { IfOk result (λ handles. handles.items ≡ handles_with self.now (option_copied guid.entry)) }
     {
         let mut handles = Vec::new(*self.live.allocator());
-        for entry in &self.live {
-            if entry.supports(guid) {
-                handles.push(entry.number())?;
+        for live in &self.live {
+            if live.supports(guid) {
+                handles.push(live.number())?;
             }
         }
         Ok(handles)
+    }
+
+    /// The first live handle that has a protocol, as it is kept.
+    fn first_live(&self, guid: &Guid) -> Option<&LiveHandle>
+        ensures { option_copied result ≡ find (supports (Some guid.now)) self.now.live }
+    {
+        self.live.iter().find(|live| live.has(guid))
+    }
+
+    /// The first live handle, in order of making, that has a protocol (LocateProtocol of UEFI 2.10, section 7.3). None
+    /// where none has it. It takes no memory.
+    pub fn first_of(&self, guid: &Guid) -> Option<u64>
+        ensures { result ≡ first_with self.now guid.now }
+    {
+        match self.first_live(guid) {
+            None => None,
+            Some(live) => Some(live.number()),
+        }
     }
 
     /// The GUIDs of a handle's protocols in order, none for an unknown handle.
@@ -364,7 +438,7 @@ impl Handles {
         let alloc = *self.live.allocator();
         match self.find(handle) {
             None => Ok(Vec::new(alloc)),
-            Some(entry) => entry.guids(),
+            Some(live) => live.guids(),
         }
     }
 
@@ -372,12 +446,12 @@ impl Handles {
     pub fn copy(&self) -> Result<Handles, AllocError>
         ensures { IfOk result (λ handles. handles ≡ self.now) }
     {
-        let mut live = Vec::with_capacity(*self.live.allocator(), self.live.len())?;
-        for entry in &self.live {
-            live.push(entry.copy()?)?;
+        let mut copies = Vec::with_capacity(*self.live.allocator(), self.live.len())?;
+        for live in &self.live {
+            copies.push(live.copy()?)?;
         }
         Ok(Handles {
-            live,
+            live: copies,
             made: self.made,
         })
     }

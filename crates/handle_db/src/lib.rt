@@ -5,7 +5,7 @@ mod entry;
 mod handle;
 mod handles;
 mod laws;
-mod pair;
+mod protocol;
 mod refusal;
 #[cfg(test)]
 mod tests;
@@ -13,5 +13,5 @@ mod tests;
 pub use entry::OpenEntry;
 pub use handles::Handles;
 pub use laws::{discarded_is_gone, new_is_new, removed_is_gone, replaced_is_fresh, same_is_equal};
-pub use pair::PairEntry;
+pub use protocol::ProtocolInterface;
 pub use refusal::HandleRefusal;

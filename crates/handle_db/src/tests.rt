@@ -40,6 +40,34 @@ fn handles_in_order_of_making(rt: HostRuntime) -> Result<(), Fail> {
 }
 
 #[test]
+fn pairs_are_installed_all_or_none(rt: HostRuntime) -> Result<(), Fail> {
+    let mut handles = Handles::new(rt.alloc());
+    // Handle, GUID and interface twice, answer.
+    let invalid = Err(HandleRefusal::Invalid);
+    let rows = [
+        (None, (1, 8), (2, 9), Ok(Some(16))),
+        (Some(17), (3, 8), (4, 9), invalid),
+        (None, (3, 8), (3, 9), invalid),
+        (Some(16), (3, 8), (2, 9), invalid),
+        (Some(16), (4, 8), (3, 8), Ok(Some(16))),
+        (None, (5, 0), (3, 0), Ok(Some(32))),
+    ];
+    for (handle, (first, one), (second, other), wanted) in rows {
+        let pairs = [(guid(first), one), (guid(second), other)];
+        assert_eq!(rt; handles.install_all(handle, &pairs), wanted);
+    }
+    assert_eq!(rt; handles.install_all(None, &[]), Ok(None));
+    assert_eq!(rt; handles.install_all(Some(17), &[]), Ok(Some(17)));
+    assert!(rt;
+        handles.guids_of(16)?.as_slice() == [guid(1), guid(2), guid(4), guid(3)].as_slice()
+    );
+    assert_eq!(rt; handles.first_of(&guid(3)), Some(16));
+    assert_eq!(rt; handles.first_of(&guid(5)), Some(32));
+    assert_eq!(rt; handles.first_of(&guid(6)), None);
+    Ok(())
+}
+
+#[test]
 fn what_is_taken_away_is_gone(rt: HostRuntime) -> Result<(), Fail> {
     let mut handles = Handles::new(rt.alloc());
     assert_eq!(rt; handles.install(None, guid(1), 8), Ok(16));

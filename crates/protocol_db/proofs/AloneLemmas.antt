@@ -10,8 +10,8 @@ use Rattle.uh_base.specs.declared.guid.Guid.{Guid}
 use Rattle.handle_db.specs.declared.entry.OpenEntry.{OpenEntry}
 use Rattle.handle_db.specs.declared.refusal.HandleRefusal.{HandleRefusal}
 use Rattle.handle_db.specs.declared.refusal.HandleRefusal.TheVariants as handle
-use Rattle.handle_db.specs.Database.{Pair, Handle, Database, has_number, has_guid, handle_in, pair_on, pair_in, opens_in, at_first, with_pairs, with_opens, reopened, without, left_with, fresh, is_like, once_more, noted, is_kept, with_open, is_between, closed}
-use Rattle.handle_db.specs.Calls.{Done as HandleDone, is_full, with_handle, installed_on, installation as handle_installation, has_pair, removal, removed_from, replacement, replaced_on, discarded, discarded_on}
+use Rattle.handle_db.specs.Database.{Protocol, Handle, Database, has_number, has_guid, handle_in, protocol_on, protocol_in, opens_in, at_first, with_protocols, with_opens, reopened, all_but, left_with, fresh, is_like, once_more, noted, is_kept, with_open, is_between, closed}
+use Rattle.handle_db.specs.Calls.{Done as HandleDone, is_full, with_handle, installed_on, installation as handle_installation, has_interface, removal, removed_from, replacement, replaced_on, discarded, discarded_on}
 use Rattle.handle_db.proofs.ListLemmas.{none_passes, found_has, pairs_at, all_at, all_at_found}
 use Rattle.protocol_db.specs.declared.request.OpenRequest.{OpenRequest}
 use Rattle.protocol_db.specs.declared.refusal.ProtocolRefusal.{ProtocolRefusal}
@@ -21,44 +21,44 @@ use Rattle.protocol_db.specs.Registrations.{Protocols}
 use Rattle.protocol_db.specs.Calls.{Done, Installation, announced, installed, installation, withdrawn, uninstalled, uninstallation, reinstalled, reinstallation, opened, protocol_opening, may_close, has_between, closing, dropped}
 use Rattle.protocol_db.specs.Laws.{IsOneAlone, AreAlone, OneAloneStays}
 
-abbrev Fine : List Pair → Type 0
-Fine pairs = All (λ (q : Pair). IsOneAlone q.opens) pairs
+abbrev Fine : List Protocol → Type 0
+Fine protocols = All (λ (q : Protocol). IsOneAlone q.opens) protocols
 
 fresh_fine : (guid : Guid) (interface : ℕ) → Fine (fresh guid interface ∷ [])
-fresh_fine guid interface = All-cons (λ (q : Pair). IsOneAlone q.opens) (fresh guid interface) [] (λ i j d l h. absurd (omega arith)) (All-nil (λ (q : Pair). IsOneAlone q.opens))
+fresh_fine guid interface = All-cons (λ (q : Protocol). IsOneAlone q.opens) (fresh guid interface) [] (λ i j d l h. absurd (omega arith)) (All-nil (λ (q : Protocol). IsOneAlone q.opens))
 
 -- the handles once one has other protocols
-pairs_fine : (d : Database) (n : ℕ) (ps : List Pair) → Fine ps → AreAlone d → AreAlone (with_pairs d n ps)
-pairs_fine d n ps fine all = all_at (λ (h : Handle). Fine h.pairs) (has_number n) (λ h. record h { pairs = ps }) d.live (λ h k. fine) all
+protocols_fine : (d : Database) (n : ℕ) (ps : List Protocol) → Fine ps → AreAlone d → AreAlone (with_protocols d n ps)
+protocols_fine d n ps fine all = all_at (λ (h : Handle). Fine h.protocols) (has_number n) (λ h. record h { protocols = ps }) d.live (λ h k. fine) all
 
-left_fine : (d : Database) (n : ℕ) (ps : List Pair) → Fine ps → AreAlone d → AreAlone (left_with d n ps)
-left_fine d n [] fine all = All-filter (λ h. not (has_number n h)) (λ (h : Handle). Fine h.pairs) d.live all
-left_fine d n (p ∷ ps) fine all = pairs_fine d n (p ∷ ps) fine all
+left_fine : (d : Database) (n : ℕ) (ps : List Protocol) → Fine ps → AreAlone d → AreAlone (left_with d n ps)
+left_fine d n [] fine all = All-filter (λ h. not (has_number n h)) (λ (h : Handle). Fine h.protocols) d.live all
+left_fine d n (p ∷ ps) fine all = protocols_fine d n (p ∷ ps) fine all
 
-found_fine : (d : Database) (n : ℕ) (h : Handle) → AreAlone d → handle_in d n ≡ Some h → Fine h.pairs
+found_fine : (d : Database) (n : ℕ) (h : Handle) → AreAlone d → handle_in d n ≡ Some h → Fine h.protocols
 unfolding handle_in
-found_fine d n h all e = found_has (λ (g : Handle). Fine g.pairs) (has_number n) d.live h all e
+found_fine d n h all e = found_has (λ (g : Handle). Fine g.protocols) (has_number n) d.live h all e
 
-without_fine : (guid : Guid) (ps : List Pair) → Fine ps → Fine (without guid ps)
-without_fine guid ps fine = All-filter (λ p. not (has_guid guid p)) (λ (q : Pair). IsOneAlone q.opens) ps fine
+all_but_fine : (guid : Guid) (ps : List Protocol) → Fine ps → Fine (all_but guid ps)
+all_but_fine guid ps fine = All-filter (λ p. not (has_guid guid p)) (λ (q : Protocol). IsOneAlone q.opens) ps fine
 
 -- an install
 new_fine : (d : Database) (guid : Guid) (interface : ℕ) (done : HandleDone) (full : Bool) → AreAlone d → (if full then Err handle.Full else Ok (record { handle = 16 * (d.made + 1); database = with_handle d guid interface })) ≡ Ok done → AreAlone done.database
 new_fine d guid interface done true all e = absurd (cc)
 new_fine d guid interface done false all e =
     let is : record { handle = 16 * (d.made + 1); database = with_handle d guid interface } ≡ done = cc in
-    subst (λ (it : HandleDone). AreAlone it.database) is (All-push (λ (h : Handle). Fine h.pairs) d.live (record { number = 16 * (d.made + 1); pairs = fresh guid interface ∷ [] }) all (fresh_fine guid interface))
+    subst (λ (it : HandleDone). AreAlone it.database) is (All-push (λ (h : Handle). Fine h.protocols) d.live (record { number = 16 * (d.made + 1); protocols = fresh guid interface ∷ [] }) all (fresh_fine guid interface))
 
 more_fine : (d : Database) (n : ℕ) (guid : Guid) (interface : ℕ) (done : HandleDone) (o : Option Handle) → AreAlone d → handle_in d n ≡ o → installed_on d n guid interface o ≡ Ok done → AreAlone done.database
 more_fine d n guid interface done None all e h = absurd (cc)
-more_fine d n guid interface done (Some g) all e h = by (list_any (has_guid guid) g.pairs) h
+more_fine d n guid interface done (Some g) all e h = by (list_any (has_guid guid) g.protocols) h
   where
-    by : (b : Bool) → (if b then Err handle.Invalid else Ok (record { handle = n; database = with_pairs d n (g.pairs ++ fresh guid interface ∷ []) })) ≡ Ok done → AreAlone done.database
+    by : (b : Bool) → (if b then Err handle.Invalid else Ok (record { handle = n; database = with_protocols d n (g.protocols ++ fresh guid interface ∷ []) })) ≡ Ok done → AreAlone done.database
     by true k = absurd (cc)
     by false k =
-        let is : record { handle = n; database = with_pairs d n (g.pairs ++ fresh guid interface ∷ []) } ≡ done = cc in
+        let is : record { handle = n; database = with_protocols d n (g.protocols ++ fresh guid interface ∷ []) } ≡ done = cc in
         subst (λ (it : HandleDone). AreAlone it.database) is
-        (pairs_fine d n (g.pairs ++ fresh guid interface ∷ []) (All-push (λ (q : Pair). IsOneAlone q.opens) g.pairs (fresh guid interface) (found_fine d n g all e) (λ i j x l m. absurd (omega arith))) all)
+        (protocols_fine d n (g.protocols ++ fresh guid interface ∷ []) (All-push (λ (q : Protocol). IsOneAlone q.opens) g.protocols (fresh guid interface) (found_fine d n g all e) (λ i j x l m. absurd (omega arith))) all)
 
 install_fine : (d : Database) (number : Option ℕ) (guid : Guid) (interface : ℕ) (done : HandleDone) → AreAlone d → handle_installation d number guid interface ≡ Ok done → AreAlone done.database
 unfolding handle_installation
@@ -74,10 +74,10 @@ installed_fine p done number guid interface (Ok it) all e h =
 -- what goes
 removal_fine : (d x : Database) (n : ℕ) (guid : Guid) (interface : ℕ) (o : Option Handle) → AreAlone d → handle_in d n ≡ o → removed_from d n guid interface o ≡ Ok x → AreAlone x
 removal_fine d x n guid interface None all e h = absurd (cc)
-removal_fine d x n guid interface (Some g) all e h = by (has_pair guid interface g) h
+removal_fine d x n guid interface (Some g) all e h = by (has_interface guid interface g) h
   where
-    by : (b : Bool) → (if b then Ok (left_with d n (without guid g.pairs)) else Err handle.NotFound) ≡ Ok x → AreAlone x
-    by true k = let is : left_with d n (without guid g.pairs) ≡ x = cc in subst AreAlone is (left_fine d n (without guid g.pairs) (without_fine guid g.pairs (found_fine d n g all e)) all)
+    by : (b : Bool) → (if b then Ok (left_with d n (all_but guid g.protocols)) else Err handle.NotFound) ≡ Ok x → AreAlone x
+    by true k = let is : left_with d n (all_but guid g.protocols) ≡ x = cc in subst AreAlone is (left_fine d n (all_but guid g.protocols) (all_but_fine guid g.protocols (found_fine d n g all e)) all)
     by false k = absurd (cc)
 
 uninstalled_fine : (p new : Protocols) (n : ℕ) (guid : Guid) (interface : ℕ) (o : Result Database HandleRefusal) → AreAlone p.handles → removal p.handles n guid interface ≡ o → uninstalled p n guid o ≡ Ok new → AreAlone new.handles
@@ -91,12 +91,12 @@ uninstalled_fine p new n guid interface (Ok d) all e h = by (is_held p.handles n
 
 replacement_fine : (d x : Database) (n : ℕ) (guid : Guid) (old new : ℕ) (o : Option Handle) → AreAlone d → handle_in d n ≡ o → replaced_on d n guid old new o ≡ Ok x → AreAlone x
 replacement_fine d x n guid old new None all e h = absurd (cc)
-replacement_fine d x n guid old new (Some g) all e h = by (has_pair guid old g) h
+replacement_fine d x n guid old new (Some g) all e h = by (has_interface guid old g) h
   where
-    by : (b : Bool) → (if b then Ok (with_pairs d n (without guid g.pairs ++ fresh guid new ∷ [])) else Err handle.NotFound) ≡ Ok x → AreAlone x
+    by : (b : Bool) → (if b then Ok (with_protocols d n (all_but guid g.protocols ++ fresh guid new ∷ [])) else Err handle.NotFound) ≡ Ok x → AreAlone x
     by true k =
-        let is : with_pairs d n (without guid g.pairs ++ fresh guid new ∷ []) ≡ x = cc in
-        subst AreAlone is (pairs_fine d n (without guid g.pairs ++ fresh guid new ∷ []) (All-push (λ (q : Pair). IsOneAlone q.opens) (without guid g.pairs) (fresh guid new) (without_fine guid g.pairs (found_fine d n g all e)) (λ i j y l m. absurd (omega arith))) all)
+        let is : with_protocols d n (all_but guid g.protocols ++ fresh guid new ∷ []) ≡ x = cc in
+        subst AreAlone is (protocols_fine d n (all_but guid g.protocols ++ fresh guid new ∷ []) (All-push (λ (q : Protocol). IsOneAlone q.opens) (all_but guid g.protocols) (fresh guid new) (all_but_fine guid g.protocols (found_fine d n g all e)) (λ i j y l m. absurd (omega arith))) all)
     by false k = absurd (cc)
 
 reinstalled_fine : (p : Protocols) (done : Done Installation) (n : ℕ) (guid : Guid) (old new : ℕ) (o : Result Database HandleRefusal) → AreAlone p.handles → replacement p.handles n guid old new ≡ o → reinstalled p n guid o ≡ Ok done → AreAlone done.after.handles
@@ -110,10 +110,10 @@ reinstalled_fine p done n guid old new (Ok d) all e h = by (is_held p.handles n 
 
 discarded_fine : (d : Database) (n : ℕ) (guid : Guid) (o : Option Handle) → AreAlone d → handle_in d n ≡ o → AreAlone (discarded_on d n guid o)
 discarded_fine d n guid None all e = all
-discarded_fine d n guid (Some g) all e = by (list_any (has_guid guid) g.pairs)
+discarded_fine d n guid (Some g) all e = by (list_any (has_guid guid) g.protocols)
   where
-    by : (b : Bool) → AreAlone (if b then left_with d n (without guid g.pairs) else d)
-    by true = left_fine d n (without guid g.pairs) (without_fine guid g.pairs (found_fine d n g all e)) all
+    by : (b : Bool) → AreAlone (if b then left_with d n (all_but guid g.protocols) else d)
+    by true = left_fine d n (all_but guid g.protocols) (all_but_fine guid g.protocols (found_fine d n g all e)) all
     by false = all
 
 dropped_fine : (p : Protocols) (n : ℕ) (guid : Guid) (b : Bool) → AreAlone p.handles → AreAlone (if b then withdrawn p (discarded p.handles n guid) n guid else p).handles
@@ -125,8 +125,8 @@ dropped_fine p n guid false all = all
 closed_fine : (d : Database) (n : ℕ) (guid : Guid) (agent controller : ℕ) → AreAlone d → AreAlone (reopened d n guid (closed agent controller))
 unfolding reopened
 closed_fine d n guid agent controller all =
-    all_at (λ (h : Handle). Fine h.pairs) (has_number n) (λ h. record h { pairs = with_opens guid (closed agent controller) h.pairs }) d.live
-    (λ h k. all_at (λ (q : Pair). IsOneAlone q.opens) (has_guid guid) (λ q. record q { opens = closed agent controller q.opens }) h.pairs
+    all_at (λ (h : Handle). Fine h.protocols) (has_number n) (λ h. record h { protocols = with_opens guid (closed agent controller) h.protocols }) d.live
+    (λ h k. all_at (λ (q : Protocol). IsOneAlone q.opens) (has_guid guid) (λ q. record q { opens = closed agent controller q.opens }) h.protocols
     (λ q m. AllPairs-filter (λ (a b : OpenEntry). (is_alone a.attributes && is_alone b.attributes) ≡ false) (λ e. not (is_between agent controller e)) q.opens m) k) all
 
 closing_fine : (p new : Protocols) (n : ℕ) (guid : Guid) (agent controller : ℕ) (may has : Bool) → AreAlone p.handles
@@ -156,37 +156,37 @@ noted_fine entry opens all free = by (list_any (is_like entry) opens)
     by true = pairs_at (λ a b. (is_alone a && is_alone b) ≡ false) (λ (e : OpenEntry). e.attributes) (is_like entry) once_more (λ e. refl) opens all
     by false = all_pairs_push (λ (a b : OpenEntry). (is_alone a.attributes && is_alone b.attributes) ≡ false) opens entry all (last (is_alone entry.attributes) refl free)
 
-entered_fine : (d : Database) (n : ℕ) (guid : Guid) (entry : OpenEntry) (o : Option Handle) (pair : Pair) → AreAlone d → handle_in d n ≡ o → pair_on guid o ≡ Some pair → (is_alone entry.attributes && list_any (λ e. is_alone e.attributes) pair.opens) ≡ false
+entered_fine : (d : Database) (n : ℕ) (guid : Guid) (entry : OpenEntry) (o : Option Handle) (protocol : Protocol) → AreAlone d → handle_in d n ≡ o → protocol_on guid o ≡ Some protocol → (is_alone entry.attributes && list_any (λ e. is_alone e.attributes) protocol.opens) ≡ false
     → AreAlone (reopened d n guid (noted entry))
-unfolding handle_in pair_on reopened
-entered_fine d n guid entry None pair all e f free = absurd (cc)
-entered_fine d n guid entry (Some h) pair all e f free =
-    let fine = found_has (λ (g : Handle). Fine g.pairs) (has_number n) d.live h all e in
-    let one = found_has (λ (q : Pair). IsOneAlone q.opens) (has_guid guid) h.pairs pair fine f in
-    all_at_found (λ (g : Handle). Fine g.pairs) (has_number n) (λ g. record g { pairs = with_opens guid (noted entry) g.pairs }) d.live h e
-    (all_at_found (λ (q : Pair). IsOneAlone q.opens) (has_guid guid) (λ q. record q { opens = noted entry q.opens }) h.pairs pair f (noted_fine entry pair.opens one free) fine) all
+unfolding handle_in protocol_on reopened
+entered_fine d n guid entry None protocol all e f free = absurd (cc)
+entered_fine d n guid entry (Some h) protocol all e f free =
+    let fine = found_has (λ (g : Handle). Fine g.protocols) (has_number n) d.live h all e in
+    let one = found_has (λ (q : Protocol). IsOneAlone q.opens) (has_guid guid) h.protocols protocol fine f in
+    all_at_found (λ (g : Handle). Fine g.protocols) (has_number n) (λ g. record g { protocols = with_opens guid (noted entry) g.protocols }) d.live h e
+    (all_at_found (λ (q : Protocol). IsOneAlone q.opens) (has_guid guid) (λ q. record q { opens = noted entry q.opens }) h.protocols protocol f (noted_fine entry protocol.opens one free) fine) all
 
-with_open_fine : (d : Database) (n : ℕ) (guid : Guid) (entry : OpenEntry) (pair : Pair) → AreAlone d → pair_in d n guid ≡ Some pair → (is_alone entry.attributes && list_any (λ e. is_alone e.attributes) pair.opens) ≡ false → AreAlone (with_open d n guid entry)
-with_open_fine d n guid entry pair all e free = by (is_kept entry)
+with_open_fine : (d : Database) (n : ℕ) (guid : Guid) (entry : OpenEntry) (protocol : Protocol) → AreAlone d → protocol_in d n guid ≡ Some protocol → (is_alone entry.attributes && list_any (λ e. is_alone e.attributes) protocol.opens) ≡ false → AreAlone (with_open d n guid entry)
+with_open_fine d n guid entry protocol all e free = by (is_kept entry)
   where
     by : (b : Bool) → AreAlone (if b then reopened d n guid (noted entry) else d)
-    by true = entered_fine d n guid entry (handle_in d n) pair all refl e free
+    by true = entered_fine d n guid entry (handle_in d n) protocol all refl e free
     by false = all
 
-pub record IsFree (r : OpenRequest) (pair : Pair) : Type 0 where
-  pub free : (is_alone r.attributes && list_any (λ e. is_alone e.attributes) pair.opens) ≡ false
+pub record IsFree (r : OpenRequest) (protocol : Protocol) : Type 0 where
+  pub free : (is_alone r.attributes && list_any (λ e. is_alone e.attributes) protocol.opens) ≡ false
 
-judged_free : (r : OpenRequest) (o : Option Pair) (interface : ℕ) → judged r o ≡ Ok interface → (pair : Pair) × (o ≡ Some pair) × IsFree r pair
+judged_free : (r : OpenRequest) (o : Option Protocol) (interface : ℕ) → judged r o ≡ Ok interface → (protocol : Protocol) × (o ≡ Some protocol) × IsFree r protocol
 judged_free r None interface e = absurd (cc)
-judged_free r (Some pair) interface e = (pair, refl, by (is_by_driver r.attributes && list_any (is_like (entry_of r)) pair.opens) (is_alone r.attributes && list_any (λ e. is_alone e.attributes) pair.opens) refl e)
+judged_free r (Some protocol) interface e = (protocol, refl, by (is_by_driver r.attributes && list_any (is_like (entry_of r)) protocol.opens) (is_alone r.attributes && list_any (λ e. is_alone e.attributes) protocol.opens) refl e)
   where
-    by : (a b : Bool) → (is_alone r.attributes && list_any (λ e. is_alone e.attributes) pair.opens) ≡ b → (if a then Err AlreadyStarted else if b then Err AccessDenied else Ok pair.interface) ≡ Ok interface → IsFree r pair
+    by : (a b : Bool) → (is_alone r.attributes && list_any (λ e. is_alone e.attributes) protocol.opens) ≡ b → (if a then Err AlreadyStarted else if b then Err AccessDenied else Ok protocol.interface) ≡ Ok interface → IsFree r protocol
     by true b is k = absurd (cc)
     by false true is k = absurd (cc)
     by false false is k = record { free = is }
 
-opening_free : (d : Database) (r : OpenRequest) (interface : ℕ) (askable : Bool) → (if askable then judged r (pair_in d r.handle r.guid) else Err Invalid) ≡ Ok interface → (pair : Pair) × (pair_in d r.handle r.guid ≡ Some pair) × IsFree r pair
-opening_free d r interface true e = judged_free r (pair_in d r.handle r.guid) interface e
+opening_free : (d : Database) (r : OpenRequest) (interface : ℕ) (askable : Bool) → (if askable then judged r (protocol_in d r.handle r.guid) else Err Invalid) ≡ Ok interface → (protocol : Protocol) × (protocol_in d r.handle r.guid ≡ Some protocol) × IsFree r protocol
+opening_free d r interface true e = judged_free r (protocol_in d r.handle r.guid) interface e
 opening_free d r interface false e = absurd (cc)
 
 opened_fine : (p : Protocols) (done : Done ℕ) (r : OpenRequest) (o : Result ℕ ProtocolRefusal) → AreAlone p.handles → opening p.handles r ≡ o → opened p r o ≡ Ok done → AreAlone done.after.handles
@@ -200,11 +200,11 @@ opened_fine p done r (Ok interface) all e h =
 pub one_alone_stays : OneAloneStays
 unfolding installation uninstallation reinstallation protocol_opening closing dropped
 one_alone_stays = record {
-  first = All-nil (λ (h : Handle). Fine h.pairs);
+  first = All-nil (λ (h : Handle). Fine h.protocols);
   install = λ p done number guid interface all e. installed_fine p done number guid interface (handle_installation p.handles number guid interface) all refl e;
   reinstall = λ p done n guid old new all e. reinstalled_fine p done n guid old new (replacement p.handles n guid old new) all refl e;
   uninstall = λ p new n guid interface all e. uninstalled_fine p new n guid interface (removal p.handles n guid interface) all refl e;
   opens = λ p done r all e. opened_fine p done r (opening p.handles r) all refl e;
   close = λ p new n guid agent controller all e. closing_fine p new n guid agent controller (may_close p.handles n agent controller) (has_between agent controller (opens_in p.handles n guid)) all e;
-  discard = λ p n guid all. dropped_fine p n guid (is_some (pair_in p.handles n guid)) all;
+  discard = λ p n guid all. dropped_fine p n guid (is_some (protocol_in p.handles n guid)) all;
 }

@@ -4,9 +4,9 @@ use Rattle.std.specs.Prelude.{Option, Some, None, Ok, Err, if◌then◌else◌, 
 use Rattle.std.specs.List.{find, filter, position, list_any}
 use Rattle.std.specs.Option.{is_some}
 use Rattle.uh_base.specs.declared.guid.Guid.{Guid}
-use Rattle.handle_db.specs.Database.{Handle, Database, handle_in, has_guid, at_first, left_with, with_pairs, without, fresh}
+use Rattle.handle_db.specs.Database.{Handle, Database, handle_in, has_guid, at_first, left_with, with_protocols, all_but, fresh}
 use Rattle.handle_db.specs.declared.refusal.HandleRefusal.TheVariants as handle
-use Rattle.handle_db.specs.Calls.{Done as HandleDone, is_full, with_handle, installed_on, installation as handle_installation, has_pair, has_pair_on, has_pair_in, removal, removed_from, replacement, replaced_on}
+use Rattle.handle_db.specs.Calls.{Done as HandleDone, is_full, with_handle, installed_on, installation as handle_installation, has_interface, has_interface_on, has_interface_in, removal, removed_from, replacement, replaced_on}
 use Rattle.handle_db.proofs.ListLemmas.{any_none, find_none, find_some, unchanged, change_some}
 use Rattle.protocol_db.specs.declared.refusal.ProtocolRefusal.TheVariants.{AccessDenied, Full}
 use Rattle.protocol_db.specs.Opening.{is_held}
@@ -24,11 +24,11 @@ target_by d guid interface target done false t e =
 
 given_by : (d : Database) (n : ℕ) (guid : Guid) (interface : ℕ) (done : HandleDone) (o : Option Handle) → installed_on d n guid interface o ≡ Ok done → done.handle ≡ n
 given_by d n guid interface done None e = absurd (cc)
-given_by d n guid interface done (Some h) e = by (list_any (has_guid guid) h.pairs) e
+given_by d n guid interface done (Some h) e = by (list_any (has_guid guid) h.protocols) e
   where
-    by : (b : Bool) → (if b then Err handle.Invalid else Ok (record { handle = n; database = with_pairs d n (h.pairs ++ fresh guid interface ∷ []) })) ≡ Ok done → done.handle ≡ n
+    by : (b : Bool) → (if b then Err handle.Invalid else Ok (record { handle = n; database = with_protocols d n (h.protocols ++ fresh guid interface ∷ []) })) ≡ Ok done → done.handle ≡ n
     by true k = absurd (cc)
-    by false k = let is : record { handle = n; database = with_pairs d n (h.pairs ++ fresh guid interface ∷ []) } ≡ done = cc in subst (λ (it : HandleDone). it.handle ≡ n) is refl
+    by false k = let is : record { handle = n; database = with_protocols d n (h.protocols ++ fresh guid interface ∷ []) } ≡ done = cc in subst (λ (it : HandleDone). it.handle ≡ n) is refl
 
 target_is : (d : Database) (number : Option ℕ) (guid : Guid) (interface target : ℕ) (done : HandleDone) → target_in d number ≡ Some target → handle_installation d number guid interface ≡ Ok done → done.handle ≡ target
 unfolding handle_installation
@@ -59,44 +59,44 @@ install_here p hs d before after made number guid interface target h r events e 
     rw there (rw k (rw l (rw counts (rw (← same) refl))))
 
 -- what can be taken away
-removal_by : (d : Database) (n : ℕ) (guid : Guid) (interface : ℕ) (o : Option Handle) → has_pair_on guid interface o ≡ true → (x : Database) × (removed_from d n guid interface o ≡ Ok x)
+removal_by : (d : Database) (n : ℕ) (guid : Guid) (interface : ℕ) (o : Option Handle) → has_interface_on guid interface o ≡ true → (x : Database) × (removed_from d n guid interface o ≡ Ok x)
 removal_by d n guid interface None e = absurd (cc)
-removal_by d n guid interface (Some h) e = (left_with d n (without guid h.pairs), rw e refl)
+removal_by d n guid interface (Some h) e = (left_with d n (all_but guid h.protocols), rw e refl)
 
-removal_ok : (d : Database) (n : ℕ) (guid : Guid) (interface : ℕ) → has_pair_in d n guid interface ≡ true → (x : Database) × (removal d n guid interface ≡ Ok x)
-unfolding has_pair_in removal
+removal_ok : (d : Database) (n : ℕ) (guid : Guid) (interface : ℕ) → has_interface_in d n guid interface ≡ true → (x : Database) × (removal d n guid interface ≡ Ok x)
+unfolding has_interface_in removal
 removal_ok d n guid interface e = removal_by d n guid interface (handle_in d n) e
 
-has_by : (d x : Database) (n : ℕ) (guid : Guid) (interface : ℕ) (o : Option Handle) → removed_from d n guid interface o ≡ Ok x → has_pair_on guid interface o ≡ true
+has_by : (d x : Database) (n : ℕ) (guid : Guid) (interface : ℕ) (o : Option Handle) → removed_from d n guid interface o ≡ Ok x → has_interface_on guid interface o ≡ true
 has_by d x n guid interface None e = absurd (cc)
-has_by d x n guid interface (Some h) e = by (has_pair guid interface h) e
+has_by d x n guid interface (Some h) e = by (has_interface guid interface h) e
   where
-    by : (b : Bool) → (if b then Ok (left_with d n (without guid h.pairs)) else Err handle.NotFound) ≡ Ok x → b ≡ true
+    by : (b : Bool) → (if b then Ok (left_with d n (all_but guid h.protocols)) else Err handle.NotFound) ≡ Ok x → b ≡ true
     by true k = refl
     by false k = absurd (cc)
 
-removal_has : (d x : Database) (n : ℕ) (guid : Guid) (interface : ℕ) → removal d n guid interface ≡ Ok x → has_pair_in d n guid interface ≡ true
-unfolding has_pair_in removal
+removal_has : (d x : Database) (n : ℕ) (guid : Guid) (interface : ℕ) → removal d n guid interface ≡ Ok x → has_interface_in d n guid interface ≡ true
+unfolding has_interface_in removal
 removal_has d x n guid interface e = has_by d x n guid interface (handle_in d n) e
 
-replacement_by : (d : Database) (n : ℕ) (guid : Guid) (old new : ℕ) (o : Option Handle) → has_pair_on guid old o ≡ true → (x : Database) × (replaced_on d n guid old new o ≡ Ok x)
+replacement_by : (d : Database) (n : ℕ) (guid : Guid) (old new : ℕ) (o : Option Handle) → has_interface_on guid old o ≡ true → (x : Database) × (replaced_on d n guid old new o ≡ Ok x)
 replacement_by d n guid old new None e = absurd (cc)
-replacement_by d n guid old new (Some h) e = (with_pairs d n (without guid h.pairs ++ fresh guid new ∷ []), rw e refl)
+replacement_by d n guid old new (Some h) e = (with_protocols d n (all_but guid h.protocols ++ fresh guid new ∷ []), rw e refl)
 
-replacement_ok : (d : Database) (n : ℕ) (guid : Guid) (old new : ℕ) → has_pair_in d n guid old ≡ true → (x : Database) × (replacement d n guid old new ≡ Ok x)
-unfolding has_pair_in replacement
+replacement_ok : (d : Database) (n : ℕ) (guid : Guid) (old new : ℕ) → has_interface_in d n guid old ≡ true → (x : Database) × (replacement d n guid old new ≡ Ok x)
+unfolding has_interface_in replacement
 replacement_ok d n guid old new e = replacement_by d n guid old new (handle_in d n) e
 
-had_by : (d x : Database) (n : ℕ) (guid : Guid) (old new : ℕ) (o : Option Handle) → replaced_on d n guid old new o ≡ Ok x → has_pair_on guid old o ≡ true
+had_by : (d x : Database) (n : ℕ) (guid : Guid) (old new : ℕ) (o : Option Handle) → replaced_on d n guid old new o ≡ Ok x → has_interface_on guid old o ≡ true
 had_by d x n guid old new None e = absurd (cc)
-had_by d x n guid old new (Some h) e = by (has_pair guid old h) e
+had_by d x n guid old new (Some h) e = by (has_interface guid old h) e
   where
-    by : (b : Bool) → (if b then Ok (with_pairs d n (without guid h.pairs ++ fresh guid new ∷ [])) else Err handle.NotFound) ≡ Ok x → b ≡ true
+    by : (b : Bool) → (if b then Ok (with_protocols d n (all_but guid h.protocols ++ fresh guid new ∷ [])) else Err handle.NotFound) ≡ Ok x → b ≡ true
     by true k = refl
     by false k = absurd (cc)
 
-replacement_has : (d x : Database) (n : ℕ) (guid : Guid) (old new : ℕ) → replacement d n guid old new ≡ Ok x → has_pair_in d n guid old ≡ true
-unfolding has_pair_in replacement
+replacement_has : (d x : Database) (n : ℕ) (guid : Guid) (old new : ℕ) → replacement d n guid old new ≡ Ok x → has_interface_in d n guid old ≡ true
+unfolding has_interface_in replacement
 replacement_has d x n guid old new e = had_by d x n guid old new (handle_in d n) e
 
 both : (a b : Bool) → (a && b) ≡ true → (a ≡ true) × (b ≡ true)
@@ -113,38 +113,38 @@ held_there p n guid x h = rw h refl
 held_again : (p : Protocols) (n : ℕ) (guid : Guid) (x : Database) → is_held p.handles n guid ≡ true → reinstalled p n guid (Ok x) ≡ Err AccessDenied
 held_again p n guid x h = rw h refl
 
-pub uninstall_barred : (p : Protocols) (n : ℕ) (guid : Guid) (interface : ℕ) (r : Bool) → r ≡ (has_pair_in p.handles n guid interface && is_held p.handles n guid) → r ≡ true → uninstallation p n guid interface ≡ Err AccessDenied
+pub uninstall_barred : (p : Protocols) (n : ℕ) (guid : Guid) (interface : ℕ) (r : Bool) → r ≡ (has_interface_in p.handles n guid interface && is_held p.handles n guid) → r ≡ true → uninstallation p n guid interface ≡ Err AccessDenied
 unfolding uninstallation
 uninstall_barred p n guid interface r is t =
-    let h = both (has_pair_in p.handles n guid interface) (is_held p.handles n guid) (sym is ∙ t) in
+    let h = both (has_interface_in p.handles n guid interface) (is_held p.handles n guid) (sym is ∙ t) in
     let k = removal_ok p.handles n guid interface h.0 in
     ap (λ it. uninstalled p n guid it) k.1 ∙ held_there p n guid k.0 h.1
 
 pub uninstall_here : (p : Protocols) (hs d : Database) (before after : List Registration) (made : ℕ) (n : ℕ) (guid : Guid) (interface : ℕ) (r : Bool) → record { handles = hs; registrations = before; made = made } ≡ p
-    → removal hs n guid interface ≡ Ok d → r ≡ (has_pair_in p.handles n guid interface && is_held p.handles n guid) → r ≡ false → after ≡ none_told before guid n
+    → removal hs n guid interface ≡ Ok d → r ≡ (has_interface_in p.handles n guid interface && is_held p.handles n guid) → r ≡ false → after ≡ none_told before guid n
     → uninstallation p n guid interface ≡ Ok (record { handles = d; registrations = after; made = made })
 unfolding uninstallation
 uninstall_here p hs d before after made n guid interface r e done is f k =
     let there : removal p.handles n guid interface ≡ Ok d = ap (λ (q : Protocols). removal q.handles n guid interface) (sym e) ∙ done in
-    let free : is_held p.handles n guid ≡ false = not_both (has_pair_in p.handles n guid interface) (is_held p.handles n guid) (sym is ∙ f) (removal_has p.handles d n guid interface there) in
+    let free : is_held p.handles n guid ≡ false = not_both (has_interface_in p.handles n guid interface) (is_held p.handles n guid) (sym is ∙ f) (removal_has p.handles d n guid interface there) in
     let counts : made ≡ p.made = ap (λ (q : Protocols). q.made) e in
     let same : before ≡ p.registrations = ap (λ (q : Protocols). q.registrations) e in
     rw there (rw free (rw k (rw counts (rw same refl))))
 
-pub reinstall_barred : (p : Protocols) (n : ℕ) (guid : Guid) (old new : ℕ) (r : Bool) → r ≡ (has_pair_in p.handles n guid old && is_held p.handles n guid) → r ≡ true → reinstallation p n guid old new ≡ Err AccessDenied
+pub reinstall_barred : (p : Protocols) (n : ℕ) (guid : Guid) (old new : ℕ) (r : Bool) → r ≡ (has_interface_in p.handles n guid old && is_held p.handles n guid) → r ≡ true → reinstallation p n guid old new ≡ Err AccessDenied
 unfolding reinstallation
 reinstall_barred p n guid old new r is t =
-    let h = both (has_pair_in p.handles n guid old) (is_held p.handles n guid) (sym is ∙ t) in
+    let h = both (has_interface_in p.handles n guid old) (is_held p.handles n guid) (sym is ∙ t) in
     let k = replacement_ok p.handles n guid old new h.0 in
     ap (λ it. reinstalled p n guid it) k.1 ∙ held_again p n guid k.0 h.1
 
 pub reinstall_here : (p : Protocols) (hs d : Database) (before after : List Registration) (made : ℕ) (n : ℕ) (guid : Guid) (old new : ℕ) (r : Bool) (events : List ℕ) → record { handles = hs; registrations = before; made = made } ≡ p
-    → replacement hs n guid old new ≡ Ok d → r ≡ (has_pair_in p.handles n guid old && is_held p.handles n guid) → r ≡ false → events ≡ events_for p.registrations guid → after ≡ all_told p.registrations guid n
+    → replacement hs n guid old new ≡ Ok d → r ≡ (has_interface_in p.handles n guid old && is_held p.handles n guid) → r ≡ false → events ≡ events_for p.registrations guid → after ≡ all_told p.registrations guid n
     → reinstallation p n guid old new ≡ Ok (record { answer = record { handle = n; events = events }; after = record { handles = d; registrations = after; made = made } })
 unfolding reinstallation
 reinstall_here p hs d before after made n guid old new r events e done is f k l =
     let there : replacement p.handles n guid old new ≡ Ok d = ap (λ (q : Protocols). replacement q.handles n guid old new) (sym e) ∙ done in
-    let free : is_held p.handles n guid ≡ false = not_both (has_pair_in p.handles n guid old) (is_held p.handles n guid) (sym is ∙ f) (replacement_has p.handles d n guid old new there) in
+    let free : is_held p.handles n guid ≡ false = not_both (has_interface_in p.handles n guid old) (is_held p.handles n guid) (sym is ∙ f) (replacement_has p.handles d n guid old new there) in
     let counts : made ≡ p.made = ap (λ (q : Protocols). q.made) e in
     rw there (rw free (rw k (rw l (rw counts refl))))
 

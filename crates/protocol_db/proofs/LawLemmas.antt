@@ -6,7 +6,7 @@ use Rattle.std.proofs.lemmas.Bool.Decides.{nat_tests}
 use Rattle.std.proofs.lemmas.List.Elements.{All-nil, All-cons}
 use Rattle.uh_base.specs.declared.guid.Guid.{Guid}
 use Rattle.handle_db.specs.declared.refusal.HandleRefusal.{HandleRefusal}
-use Rattle.handle_db.specs.Database.{Database, pair_in, fresh}
+use Rattle.handle_db.specs.Database.{Database, protocol_in, fresh}
 use Rattle.handle_db.specs.Calls.{Done as HandleDone, installation as handle_installation, removal, replacement}
 use Rattle.handle_db.proofs.ListLemmas.{none_left}
 use Rattle.handle_db.proofs.LawLemmas.{removed_is_gone, replaced_is_fresh, discarded_is_gone}
@@ -77,13 +77,13 @@ unfolding dropped
 dropped_is_withdrawn p n guid there = rw there (record { gone = discarded_is_gone p.handles n guid; silent = silent_all guid n p.registrations })
 
 -- what comes
-reinstalled_by : (p : Protocols) (done : Done Installation) (n : ℕ) (guid : Guid) (old new : ℕ) (o : Result Database HandleRefusal) → replacement p.handles n guid old new ≡ o → reinstalled p n guid o ≡ Ok done → pair_in done.after.handles n guid ≡ Some (fresh guid new)
+reinstalled_by : (p : Protocols) (done : Done Installation) (n : ℕ) (guid : Guid) (old new : ℕ) (o : Result Database HandleRefusal) → replacement p.handles n guid old new ≡ o → reinstalled p n guid o ≡ Ok done → protocol_in done.after.handles n guid ≡ Some (fresh guid new)
 reinstalled_by p done n guid old new (Err refusal) e h = absurd (cc)
 reinstalled_by p done n guid old new (Ok d) e h = by (is_held p.handles n guid) h
   where
-    by : (b : Bool) → (if b then Err AccessDenied else Ok (announced p d n guid)) ≡ Ok done → pair_in done.after.handles n guid ≡ Some (fresh guid new)
+    by : (b : Bool) → (if b then Err AccessDenied else Ok (announced p d n guid)) ≡ Ok done → protocol_in done.after.handles n guid ≡ Some (fresh guid new)
     by true k = absurd (cc)
-    by false k = let is : announced p d n guid ≡ done = cc in subst (λ (it : Done Installation). pair_in it.after.handles n guid ≡ Some (fresh guid new)) is (replaced_is_fresh p.handles d n guid old new e)
+    by false k = let is : announced p d n guid ≡ done = cc in subst (λ (it : Done Installation). protocol_in it.after.handles n guid ≡ Some (fresh guid new)) is (replaced_is_fresh p.handles d n guid old new e)
 
 pub reinstalled_is_fresh : ReinstalledIsFresh
 unfolding reinstallation

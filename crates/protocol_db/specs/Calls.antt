@@ -6,7 +6,7 @@ use Rattle.uh_base.specs.declared.guid.Guid.{Guid}
 use Rattle.handle_db.specs.declared.entry.OpenEntry.{OpenEntry}
 use Rattle.handle_db.specs.declared.refusal.HandleRefusal.{HandleRefusal}
 use Rattle.handle_db.specs.declared.refusal.HandleRefusal.TheVariants as handle
-use Rattle.handle_db.specs.Database.{Database, is_handle, pair_in, opens_in, reopened, is_between, closed, with_open}
+use Rattle.handle_db.specs.Database.{Database, is_handle, protocol_in, opens_in, reopened, is_between, closed, with_open}
 use Rattle.handle_db.specs.Calls.{Done as HandleDone, installation as handle_installation, next_in, removal, replacement, discarded}
 use Rattle.protocol_db.specs.declared.request.OpenRequest.{OpenRequest}
 use Rattle.protocol_db.specs.declared.refusal.ProtocolRefusal.{ProtocolRefusal}
@@ -120,7 +120,7 @@ forgotten p event = record p { registrations = filter (λ r. not (r.event == eve
 
 -- A protocol goes whatever its interface and whoever opened it.
 unfoldable pub dropped : Protocols → ℕ → Guid → Protocols
-dropped p number guid = if is_some (pair_in p.handles number guid) then withdrawn p (discarded p.handles number guid) number guid else p
+dropped p number guid = if is_some (protocol_in p.handles number guid) then withdrawn p (discarded p.handles number guid) number guid else p
 
 -- A call that answers so leads from one state to another. Want of memory may come at any call that takes some; then,
 -- as after each refusal, the state is as before.

@@ -3,7 +3,7 @@ use Rattle.std.specs.Prelude.{ℕ, ◌≡◌, ◌==◌, ◌&&◌, true, false, L
 use Rattle.std.specs.List.{All, AllPairs, list_any}
 use Rattle.std.specs.Option.{is_some}
 use Rattle.uh_base.specs.declared.guid.Guid.{Guid}
-use Rattle.handle_db.specs.Database.{Pair, Handle, Database, pair_in, fresh}
+use Rattle.handle_db.specs.Database.{Protocol, Handle, Database, protocol_in, fresh}
 use Rattle.handle_db.specs.declared.entry.OpenEntry.{OpenEntry}
 use Rattle.protocol_db.specs.declared.request.OpenRequest.{OpenRequest}
 use Rattle.protocol_db.specs.Opening.{is_alone}
@@ -12,7 +12,7 @@ use Rattle.protocol_db.specs.Calls.{Done, Installation, installation, uninstalla
 
 -- A handle hasn't a protocol, and so no opens of it, and is pending for no registration of it.
 pub record IsWithdrawn (p : Protocols) (number : ℕ) (guid : Guid) : Type 0 where
-  pub gone : pair_in p.handles number guid ≡ None
+  pub gone : protocol_in p.handles number guid ≡ None
   pub silent : All (λ (r : Registration). is_for guid r ≡ true → list_any (λ h. h == number) r.pending ≡ false) p.registrations
 
 -- What was uninstalled is gone with its opens, and pending nowhere.
@@ -21,11 +21,11 @@ UninstalledIsWithdrawn = (p new : Protocols) (number : ℕ) (guid : Guid) (inter
 
 -- So is what was discarded.
 abbrev pub DroppedIsWithdrawn : Type 0
-DroppedIsWithdrawn = (p : Protocols) (number : ℕ) (guid : Guid) → is_some (pair_in p.handles number guid) ≡ true → IsWithdrawn (dropped p number guid) number guid
+DroppedIsWithdrawn = (p : Protocols) (number : ℕ) (guid : Guid) → is_some (protocol_in p.handles number guid) ≡ true → IsWithdrawn (dropped p number guid) number guid
 
 -- What was reinstalled is there, opened by nobody.
 abbrev pub ReinstalledIsFresh : Type 0
-ReinstalledIsFresh = (p : Protocols) (done : Done Installation) (number : ℕ) (guid : Guid) (old new : ℕ) → reinstallation p number guid old new ≡ Ok done → pair_in done.after.handles number guid ≡ Some (fresh guid new)
+ReinstalledIsFresh = (p : Protocols) (done : Done Installation) (number : ℕ) (guid : Guid) (old new : ℕ) → reinstallation p number guid old new ≡ Ok done → protocol_in done.after.handles number guid ≡ Some (fresh guid new)
 
 -- The handle of what was installed is pending for each registration of its GUID.
 abbrev pub InstalledIsPending : Type 0
@@ -38,7 +38,7 @@ IsOneAlone opens = AllPairs (λ (a b : OpenEntry). (is_alone a.attributes && is_
 
 -- That is so of each protocol of each handle.
 abbrev pub AreAlone : Database → Type 0
-AreAlone d = All (λ (h : Handle). All (λ (q : Pair). IsOneAlone q.opens) h.pairs) d.live
+AreAlone d = All (λ (h : Handle). All (λ (q : Protocol). IsOneAlone q.opens) h.protocols) d.live
 
 -- It is so at first, and each call that changes the handles leaves it so.
 pub record OneAloneStays : Type 0 where

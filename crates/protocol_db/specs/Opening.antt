@@ -3,7 +3,7 @@ use Rattle.std.specs.Prelude.{ℕ, ◌==◌, ◌&&◌, ◌||◌, not, bit_and, B
 use Rattle.std.specs.List.{list_any}
 use Rattle.uh_base.specs.declared.guid.Guid.{Guid}
 use Rattle.handle_db.specs.declared.entry.OpenEntry.{OpenEntry}
-use Rattle.handle_db.specs.Database.{Pair, Database, is_handle, pair_in, opens_in, is_like}
+use Rattle.handle_db.specs.Database.{Protocol, Database, is_handle, protocol_in, opens_in, is_like}
 use Rattle.protocol_db.specs.declared.request.OpenRequest.{OpenRequest}
 use Rattle.protocol_db.specs.declared.refusal.ProtocolRefusal.{ProtocolRefusal}
 use Rattle.protocol_db.specs.declared.refusal.ProtocolRefusal.TheVariants.{Invalid, Unsupported, AccessDenied, AlreadyStarted}
@@ -46,16 +46,16 @@ is_askable d r =
     && not (r.attributes == 8 && r.controller == r.handle))))
 
 -- Then the entries that are there are judged.
-abbrev pub judged : OpenRequest → Option Pair → Result ℕ ProtocolRefusal
+abbrev pub judged : OpenRequest → Option Protocol → Result ℕ ProtocolRefusal
 judged r None = Err Unsupported
-judged r (Some pair) =
-    if is_by_driver r.attributes && list_any (is_like (entry_of r)) pair.opens then Err AlreadyStarted
-    else if is_alone r.attributes && list_any (λ e. is_alone e.attributes) pair.opens then Err AccessDenied
-    else Ok pair.interface
+judged r (Some protocol) =
+    if is_by_driver r.attributes && list_any (is_like (entry_of r)) protocol.opens then Err AlreadyStarted
+    else if is_alone r.attributes && list_any (λ e. is_alone e.attributes) protocol.opens then Err AccessDenied
+    else Ok protocol.interface
 
 -- the interface that an open gives, or why it is refused
 unfoldable pub opening : Database → OpenRequest → Result ℕ ProtocolRefusal
-opening d r = if is_askable d r then judged r (pair_in d r.handle r.guid) else Err Invalid
+opening d r = if is_askable d r then judged r (protocol_in d r.handle r.guid) else Err Invalid
 
 abbrev pub holds_any : Option (List OpenEntry) → Bool
 holds_any None = false

@@ -8,7 +8,7 @@ ghost use Rattle.std.specs.List.{list_any};
 
 use crate::refusal::ProtocolRefusal;
 use crate::request::OpenRequest;
-use handle_db::{OpenEntry, PairEntry};
+use handle_db::{OpenEntry, ProtocolInterface};
 
 /// Whether OpenProtocol knows the attributes.
 pub fn is_attribute(attributes: u32) -> bool
@@ -95,15 +95,15 @@ fn is_denied(request: &OpenRequest, opens: &[OpenEntry]) -> bool
 }
 
 /// The interface that an open of a protocol gives, or why the entries that are there refuse it.
-pub fn judged(request: &OpenRequest, pair: &PairEntry) -> Result<u64, ProtocolRefusal>
-    ensures { result ≡ judged request.now (Some pair.now) }
+pub fn judged(request: &OpenRequest, protocol: &ProtocolInterface) -> Result<u64, ProtocolRefusal>
+    ensures { result ≡ judged request.now (Some protocol.now) }
 {
-    let opens = pair.opens();
+    let opens = protocol.opens();
     if is_started(request, opens) {
         return Err(ProtocolRefusal::AlreadyStarted);
     }
     if is_denied(request, opens) {
         return Err(ProtocolRefusal::AccessDenied);
     }
-    Ok(pair.interface())
+    Ok(protocol.interface())
 }

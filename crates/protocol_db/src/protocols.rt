@@ -4,7 +4,7 @@
 ghost use Rattle.std.specs.Prelude.{◌≡◌, ◌&&◌, [], Ok, IfOk, IfErr, MatchOption, position};
 ghost use Rattle.std.specs.List.{find, list_any};
 ghost use Rattle.std.specs.Option.{option_copied};
-ghost use Rattle.handle_db.specs.Calls.{has_pair_in};
+ghost use Rattle.handle_db.specs.Calls.{has_interface_in};
 ghost use Rattle.handle_db.specs.Database.{opens_in};
 ghost use Rattle.protocol_db.specs.Registrations.{events_for, all_told, none_told, is_for, is_numbered, first_pending, first_taken};
 ghost use Rattle.protocol_db.specs.Opening.{is_askable, opening, is_held};
@@ -14,12 +14,12 @@ ghost use Rattle.protocol_db.specs.Whole.{IsWhole};
 use crate::installed::Installed;
 use crate::opening::{any_between, any_holding, asks_agent, asks_controller, is_attribute, judged};
 use crate::refusal::{ProtocolRefusal, refused};
-use crate::registration::{RegistrationEntry, all_told, put_told, untell_all};
+use crate::registration::{LiveRegistration, all_told, put_told, untell_all};
 use crate::request::OpenRequest;
 use handle_db::{Handles, OpenEntry};
 use std::alloc::{AllocError, Global};
 use std::marker::Model;
-use uh_base::Guid;
+use uh_base::{Guid, place_of};
 
 /// The most registrations that live at a time.
 const MOST_LIVE: usize = 256;
@@ -32,7 +32,7 @@ const MOST_MADE: u64 = (1 << 60) - 1;
 #[derive(Drop)]
 pub struct Protocols {
     handles: Handles,
-    registrations: Vec<RegistrationEntry>,
+    registrations: Vec<LiveRegistration>,
     made: u64,
 }
 
@@ -91,7 +91,7 @@ impl Protocols {
 
     /// The registrations once those of a protocol are told of an interface on a handle. None where none is for it, and
     /// they stay as they are.
-    fn told(&self, guid: &Guid, handle: u64) -> Result<Option<Vec<RegistrationEntry>>, AllocError>
+    fn told(&self, guid: &Guid, handle: u64) -> Result<Option<Vec<LiveRegistration>>, AllocError>
         ensures { IfOk result (λ told. MatchOption told (all_told self.now.registrations guid.now handle ≡ self.now.registrations) (λ entries. entries.items ≡ all_told self.now.registrations guid.now handle)) }
     {
         if !self.is_registered(guid) {
@@ -159,9 +159,9 @@ impl Protocols {
 
     /// Whether a handle has an interface by a GUID and an entry keeps that from being taken away.
     fn is_barred(&self, handle: u64, guid: &Guid, interface: u64) -> bool
-        ensures { result ≡ (has_pair_in self.now.handles handle guid.now interface && is_held self.now.handles handle guid.now) }
+        ensures { result ≡ (has_interface_in self.now.handles handle guid.now interface && is_held self.now.handles handle guid.now) }
     {
-        self.handles.has_pair(handle, guid, interface) && self.is_held(handle, guid)
+        self.handles.has_interface(handle, guid, interface) && self.is_held(handle, guid)
     }
 
     /// Takes a protocol interface away, with its opens (UninstallProtocolInterface of UEFI 2.10, section 7.3). Its
@@ -230,9 +230,9 @@ impl Protocols {
         if !self.is_askable(request) {
             return Err(ProtocolRefusal::Invalid);
         }
-        match self.handles.find_pair(request.handle, &request.guid) {
+        match self.handles.find_protocol(request.handle, &request.guid) {
             None => Err(ProtocolRefusal::Unsupported),
-            Some(pair) => judged(request, pair),
+            Some(protocol) => judged(request, protocol),
         }
     }
 
@@ -290,7 +290,7 @@ impl Protocols {
         self.registrations.reserve(1)?;
         let number = 16 * (self.made + 1) + 4;
         self.registrations
-            .push_reserved(RegistrationEntry::new(alloc, number, guid, event));
+            .push_reserved(LiveRegistration::new(alloc, number, guid, event));
         self.made += 1;
         Ok(number)
     }
@@ -314,7 +314,7 @@ impl Protocols {
     }
 
     /// The live registration that is shown so.
-    fn find(&self, registration: u64) -> Option<&RegistrationEntry>
+    fn find(&self, registration: u64) -> Option<&LiveRegistration>
         ensures { option_copied result ≡ find (is_numbered registration) self.now.registrations }
     {
         match self.place(registration) {
@@ -327,13 +327,7 @@ impl Protocols {
     fn place(&self, registration: u64) -> Option<usize>
         ensures { result ≡ position (is_numbered registration) self.now.registrations }
     {
-        match self
-            .registrations
-            .binary_search_by_key(&registration, |entry| entry.number())
-        {
-            Ok(place) => Some(place),
-            Err(_) => None,
-        }
+        place_of(&self.registrations, registration)
     }
 
     /// The handle that is pending longest for a registration, pending no more. None exactly where none is, and then
@@ -391,7 +385,7 @@ impl Protocols {
     pub fn discard(&mut self, handle: u64, guid: &Guid)
         ensures { self.new ≡ dropped self.old handle guid.now }
     {
-        if self.handles.find_pair(handle, guid).is_some() {
+        if self.handles.find_protocol(handle, guid).is_some() {
             self.handles.discard(handle, guid);
             self.handles.whole();
             untell_all(&mut self.registrations, guid, handle);

@@ -7,18 +7,18 @@ ghost use Rattle.protocol_db.specs.Registrations.{Registration, is_for, told, un
 
 use std::alloc::{AllocError, Global};
 use std::marker::Model;
-use uh_base::Guid;
+use uh_base::{Guid, Numbered};
 
 /// An event that is told of new interfaces of a protocol.
 #[derive(Drop)]
-pub struct RegistrationEntry {
+pub struct LiveRegistration {
     number: u64,
     guid: Guid,
     event: u64,
     pending: Vec<u64>,
 }
 
-impl Model for RegistrationEntry {
+impl Model for LiveRegistration {
     ghost use Rattle.protocol_db.specs.Registrations.{Registration};
 
     ghost Value = { Registration };
@@ -26,24 +26,25 @@ impl Model for RegistrationEntry {
     ghost view = { λ r. record { number = r.number; guid = r.guid; event = r.event; pending = r.pending.items } };
 }
 
-impl RegistrationEntry {
+impl Numbered for LiveRegistration {
+    ghost number = { λ registration. registration.number };
+
+    fn number(&self) -> u64 {
+        self.number
+    }
+}
+
+impl LiveRegistration {
     /// A registration with no handle pending. It takes no memory.
-    pub fn new(alloc: Global, number: u64, guid: Guid, event: u64) -> RegistrationEntry
+    pub fn new(alloc: Global, number: u64, guid: Guid, event: u64) -> LiveRegistration
         ensures { result ≡ record { number = number; guid = guid; event = event; pending = [] } }
     {
-        RegistrationEntry {
+        LiveRegistration {
             number,
             guid,
             event,
             pending: Vec::new(alloc),
         }
-    }
-
-    /// The registration as it is shown.
-    pub fn number(&self) -> u64
-        ensures { result ≡ self.now.number }
-    {
-        self.number
     }
 
     /// The event.
@@ -68,10 +69,10 @@ impl RegistrationEntry {
     }
 
     /// An equal registration.
-    pub fn copy(&self) -> Result<RegistrationEntry, AllocError>
+    pub fn copy(&self) -> Result<LiveRegistration, AllocError>
         ensures { IfOk result (λ entry. entry ≡ self.now) }
     {
-        Ok(RegistrationEntry {
+        Ok(LiveRegistration {
             number: self.number,
             guid: self.guid,
             event: self.event,
@@ -80,7 +81,7 @@ impl RegistrationEntry {
     }
 
     /// The registration that was told of an interface of a protocol on a handle.
-    pub fn told(&self, guid: &Guid, handle: u64) -> Result<RegistrationEntry, AllocError>
+    pub fn told(&self, guid: &Guid, handle: u64) -> Result<LiveRegistration, AllocError>
         ensures { IfOk result (λ entry. entry ≡ told guid.now handle self.now) }
     {
         let mut entry = self.copy()?;
@@ -122,10 +123,10 @@ impl RegistrationEntry {
 /// The registrations once those of a protocol are told of an interface on a handle.
 #[tactic(auto, unfolding(crate::specs::Registrations::all_told))]
 pub fn all_told(
-    entries: &Vec<RegistrationEntry>,
+    entries: &Vec<LiveRegistration>,
     guid: &Guid,
     handle: u64,
-) -> Result<Vec<RegistrationEntry>, AllocError>
+) -> Result<Vec<LiveRegistration>, AllocError>
     ensures { IfOk result (λ told. told.items ≡ all_told entries.now.items guid.now handle) }
 {
     let mut told = Vec::with_capacity(*entries.allocator(), entries.len())?;
@@ -136,7 +137,7 @@ pub fn all_told(
 }
 
 /// Puts registrations that were told in place of those before, where there are any.
-pub fn put_told(entries: &mut Vec<RegistrationEntry>, told: Option<Vec<RegistrationEntry>>)
+pub fn put_told(entries: &mut Vec<LiveRegistration>, told: Option<Vec<LiveRegistration>>)
     ensures { MatchOption told (entries.new.items ≡ entries.old.items) (λ told. entries.new.items ≡ told.items) }
 {
     if let Some(told) = told {
@@ -146,7 +147,7 @@ pub fn put_told(entries: &mut Vec<RegistrationEntry>, told: Option<Vec<Registrat
 
 /// A handle whose interface of a protocol is gone is pending no more, for any registration of it.
 #[tactic(auto, unfolding(crate::specs::Registrations::none_told))]
-pub fn untell_all(entries: &mut Vec<RegistrationEntry>, guid: &Guid, handle: u64)
+pub fn untell_all(entries: &mut Vec<LiveRegistration>, guid: &Guid, handle: u64)
     ensures { entries.new.items ≡ none_told entries.old.items guid.now handle }
 {
     for entry in entries.iter_mut() {
