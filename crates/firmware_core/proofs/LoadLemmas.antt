@@ -1,7 +1,7 @@
 -- Loading.
-use Rattle.std.proofs.Common.{◌≡◌, ℕ, zero, suc, ◌+◌, ◌<◌, List, [], ◌∷◌, length, Option, Some, None, Result, Ok, Err, refl, sym, ap, ◌∙◌, arith, add-zero, zero-add}
+use Rattle.std.proofs.Common.{◌≡◌, ℕ, suc, ◌+◌, ◌<◌, List, [], ◌∷◌, length, Option, Some, None, Result, Ok, Err, refl, sym, ap, ◌∙◌, arith, add-zero, zero-add}
 use Rattle.std.specs.Prelude.{slice_get}
-use Rattle.std.proofs.Common.{◌-◌, ◌*◌, ◌/◌, ◌%◌, ◌≤◌, ◌++◌, take, drop, append-nil, false, true, Bool}
+use Rattle.std.proofs.Common.{◌-◌, ◌*◌, ◌/◌, ◌%◌, ◌≤◌, ◌++◌, take, drop, append-nil}
 use Rattle.std.proofs.lemmas.Grind.{common_steps}
 use Rattle.page_alloc.specs.declared.layout.Layout.{Layout}
 use Rattle.page_alloc.specs.Layout.{IsLayout, layout_at}
@@ -9,7 +9,6 @@ use Rattle.base_reloc.specs.declared.site.Site.{Site}
 use Rattle.base_reloc.specs.Moved.{moved_byte, first_leaving, all_or_range}
 use Rattle.pe_image.specs.declared.fault.PeFault.{PeFault}
 use Rattle.pe_image.specs.declared.fault.PeFault.TheVariants as pe
-use Rattle.pe_image.specs.declared.image.Image.{Image}
 use Rattle.pe_image.specs.ImageOf.{Fields, fields_of}
 use Rattle.pe_image.specs.Checks.{Stops}
 use Rattle.firmware_core.specs.Machines.{Spread}

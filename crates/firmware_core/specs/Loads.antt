@@ -1,6 +1,7 @@
 -- How an image file is loaded, and how an image begins and ends.
-use Rattle.std.specs.Prelude.{ℕ, zero, suc, ◌≡◌, ◌≤◌, ◌+◌, ◌-◌, ◌*◌, ◌/◌, ◌^◌, ◌==◌, ◌&&◌, ◌||◌, nat_le, nat_lt, Bool, true, false, not, ◌%◌, is_none, List, [], ◌∷◌, ◌++◌, length, replicate, Option, Some, None, Result, Ok, Err, slice_set, if◌then◌else◌}
+use Rattle.std.specs.Prelude.{ℕ, zero, suc, ◌≡◌, ◌≤◌, ◌+◌, ◌-◌, ◌*◌, ◌/◌, ◌^◌, ◌==◌, ◌&&◌, nat_le, nat_lt, Bool, true, false, not, ◌%◌, is_none, List, [], ◌∷◌, length, replicate, Option, Some, None, Result, Ok, Err, slice_set, if◌then◌else◌}
 use Rattle.uh_base.specs.Answers.{◌>>=◌}
+use Rattle.uh_base.specs.Limits.{frame_limit}
 use Rattle.uh_base.specs.Statuses.{load_error, unsupported, out_of_resources}
 use Rattle.guest_memory.specs.Lists.{count_true}
 use Rattle.guest_memory.specs.Pages.{Pages, all_rights}
@@ -128,9 +129,9 @@ handle_of made = 16 * made
 abbrev pub has_room : State → Bool
 has_room s = is_none s.image && nat_lt s.handles (2 ^ 60 - 1)
 
--- Placing touches the image's pages; at most 65,536 pages are touched.
+-- Placing touches the image's pages, of which there is a most in all.
 abbrev pub lacks_frames : Pages → ℕ → ℕ → Bool
-lacks_frames m first count = nat_lt 65536 (count_true (reserved m first count).touched)
+lacks_frames m first count = nat_lt frame_limit (count_true (reserved m first count).touched)
 
 abbrev pub loaded_image : State → Plan → LoadedImage
 loaded_image s plan = record {

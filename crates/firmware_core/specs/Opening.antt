@@ -1,5 +1,5 @@
 -- The machine at opening.
-use Rattle.std.specs.Prelude.{ℕ, ◌+◌, ◌-◌, ◌*◌, ◌/◌, [], ◌∷◌, true, false, replicate, None}
+use Rattle.std.specs.Prelude.{ℕ, ◌*◌, [], ◌∷◌, false, replicate, None}
 use Rattle.guest_memory.specs.Pages.{Pages, all_rights}
 use Rattle.guest_memory.specs.Changes.{reserved, with_rights}
 use Rattle.page_alloc.specs.declared.layout.Layout.{Layout}

@@ -1,5 +1,5 @@
 -- The services of the firmware: what each answers, over the parts that it reads or changes.
-use Rattle.std.specs.Prelude.{ℕ, ◌+◌, ◌^◌, ◌==◌, Bool, List, Option, Some, None, slice_index, if◌then◌else◌}
+use Rattle.std.specs.Prelude.{ℕ, ◌==◌, List, Option, Some, None, if◌then◌else◌}
 use Rattle.uh_base.specs.Statuses.{success, warn_unknown_glyph, invalid_parameter}
 use Rattle.uh_base.specs.ConsoleText.{units_text, is_surrogate}
 use Rattle.std.specs.List.{list_any}

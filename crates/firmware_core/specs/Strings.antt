@@ -1,5 +1,5 @@
 -- Strings of 16-bit units in memory, which end with a unit of 0. (UEFI 2.10, 2.3.1: CHAR16)
-use Rattle.std.specs.Prelude.{ℕ, zero, suc, ◌+◌, ◌*◌, ◌==◌, ◌&&◌, List, [], ◌∷◌, Bool, Option, Some, None, if◌then◌else◌}
+use Rattle.std.specs.Prelude.{ℕ, zero, suc, ◌==◌, ◌&&◌, List, [], ◌∷◌, Bool, Option, Some, None, if◌then◌else◌}
 use Rattle.std.specs.Option.{option_map}
 use Rattle.uh_base.specs.Bytes.{next, number_at}
 use Rattle.guest_memory.specs.Pages.{Pages, bytes_of}

@@ -1,5 +1,5 @@
 -- One turn of the machine.
-use Rattle.std.specs.Prelude.{ℕ, ◌+◌, ◌-◌, ◌*◌, ◌/◌, ◌%◌, ◌==◌, ◌&&◌, not, nat_le, nat_lt, Bool, List, Option, Some, None, slice_index, slice_set, if◌then◌else◌}
+use Rattle.std.specs.Prelude.{ℕ, ◌-◌, ◌*◌, ◌/◌, ◌%◌, ◌==◌, ◌&&◌, not, nat_le, Bool, Option, Some, None, slice_index, slice_set, if◌then◌else◌}
 use Rattle.uh_base.specs.Statuses.{unsupported}
 use Rattle.rv_step.specs.Exec.{Outcome, Went, Stored, Stopped, step_of}
 use Rattle.rv_step.specs.Exec as exec

@@ -1,5 +1,5 @@
 -- What the code's values stand for, and what calls answer.
-use Rattle.std.specs.Prelude.{ℕ, ◌≡◌, List, Option, Some, None, Result, Ok, Err}
+use Rattle.std.specs.Prelude.{ℕ, ◌≡◌, List, Some, Result, Ok, Err}
 use Rattle.uh_base.specs.declared.status.EfiStatus.{EfiStatus}
 use Rattle.pe_image.specs.declared.fault.PeFault.{PeFault}
 use Rattle.pe_image.specs.declared.fault.PeFault.TheVariants as pe

@@ -19,6 +19,7 @@ use crate::service::{Served, output_string};
 use address_view::View;
 use guest_memory::{GuestMemory, PutEnd};
 use page_alloc::Layout;
+use rv_decode::KnownWords;
 use rv_step::{Regs, StepEnd};
 use std::alloc::{AllocError, Global};
 use std::marker::Model;
@@ -53,6 +54,8 @@ pub struct Machine {
     view: View,
     image: Option<LoadedImage>,
     handles: u64,
+    /// What words were read as.
+    known: KnownWords,
 }
 
 impl Model for Machine {
@@ -74,6 +77,7 @@ impl Machine {
     {
         let layout = Layout::at(base, pages);
         layout_spreads(&layout);
+        let known = KnownWords::new(alloc)?;
         let mut memory = GuestMemory::new(alloc, base, pages)?;
         put_firmware(&layout, &mut memory)?;
         let view = View::identity(alloc, base, u64::from(pages) * 4096)?;
@@ -84,6 +88,7 @@ impl Machine {
             view,
             image: None,
             handles: 1,
+            known,
         })
     }
 
@@ -92,7 +97,8 @@ impl Machine {
     fn instruction_turn(&mut self) -> Result<Happened, AllocError>
         ensures { IfOk result (λ h. record { happened = h; state = self.new } ≡ instruction_turn self.old) }
     {
-        match instruction(&mut self.regs, &mut self.memory, &self.view) {
+        let known = &mut self.known;
+        match instruction(known, &mut self.regs, &mut self.memory, &self.view) {
             StepEnd::Next => Ok(Happened::Went),
             StepEnd::Trap(trap) => Ok(Happened::Trapped(trap)),
             StepEnd::Frames => Ok(Happened::Frames),

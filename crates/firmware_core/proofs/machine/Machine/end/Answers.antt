@@ -1,6 +1,5 @@
-use Rattle.std.proofs.Common.{◌≡◌, arith, sym, subst, Option, Some}
-use Rattle.firmware_core.specs.declared.machine.LoadedImage.{LoadedImage}
-use Rattle.firmware_core.specs.Machines.{Lies, LiesIn}
+use Rattle.std.proofs.Common.{arith}
+use Rattle.firmware_core.specs.Machines.{Lies}
 use Rattle.firmware_core.proofs.machine.Machine.end.Goals as goal
 
 pub overflow_cast-first : goal.overflow_cast-first

@@ -1,7 +1,6 @@
 use Rattle.std.proofs.Common.{◌≡◌, ◌≤◌, ◌+◌, ◌-◌, ℕ, ◌*◌, ◌/◌, arith, ◌∙◌, subst, ap, sym, length}
 use Rattle.firmware_core.specs.Machines.{State}
-use Rattle.firmware_core.specs.Loads.{LiesAt, page_count}
-use Rattle.pe_image.specs.ImageOf.{fields_of}
+use Rattle.firmware_core.specs.Loads.{LiesAt}
 use Rattle.firmware_core.proofs.machine.Machine.place.Goals as goal
 
 lies : (s t : State) (base pages : ℕ) → s ≡ t → LiesAt s.layout base pages → LiesAt t.layout base pages
