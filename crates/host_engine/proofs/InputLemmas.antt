@@ -1,139 +1,133 @@
--- Files and texts of images under way.
-use Rattle.std.proofs.Common.{◌≡◌, ℕ, zero, suc, List, [], ◌∷◌, ◌++◌, Option, Some, None, Result, Ok, Err, length, get_or, drop, ◌<◌, ◌≤◌, ◌+◌, refl, sym, ap, subst, ◌∙◌, append_assoc, append-nil, arith, inl, inr}
-use Rattle.std.specs.Prelude.{slice_get, ◌⊎◌, string_bytes}
-use Rattle.std.specs.Option.{option_map}
-use Rattle.std.proofs.lemmas.List.{drop_more, drop_all}
-use Rattle.uh_base.specs.Told.{FileMap, Lacks, IsLonger}
-use Rattle.uh_base.specs.Counts.{Rose}
+-- Images under way: their files, and their texts.
+use Rattle.std.proofs.Common.{◌≡◌, ℕ, zero, suc, List, [], ◌∷◌, ◌++◌, Option, Some, None, Result, Ok, Err, length, get_or, drop, map, ◌<◌, ◌≤◌, ◌+◌, refl, sym, ap, subst, ◌∙◌, append_assoc, append-nil, arith}
+use Rattle.std.specs.Prelude.{string_bytes}
+use Rattle.std.proofs.lemmas.List.{drop_more, drop_all, map-append}
+use Rattle.uh_base.specs.Told.{FileMap}
+use Rattle.guest_build.specs.Assembled.{assembled}
+use Rattle.host_script.specs.Forms.{IsOrigin, AreImages}
+use Rattle.host_script.specs.Plain.{Plain}
 use Rattle.host_script.specs.declared.script.ImageSpec.{ImageSpec}
 use Rattle.host_script.specs.declared.script.Origin.{Origin}
-use Rattle.host_script.specs.declared.script.Origin.TheVariants.{File}
-use Rattle.host_engine.specs.declared.inputs.Code.{Code}
-use Rattle.host_engine.specs.declared.inputs.Source.{Source}
-use Rattle.host_engine.specs.declared.script_run.Input.{Input}
+use Rattle.host_script.specs.declared.script.Origin.TheVariants.{File, Text}
+use Rattle.host_engine.specs.declared.assembly.Unassembled.{Unassembled}
+use Rattle.host_engine.specs.declared.assembly.Unassembled.TheVariants as whys
+use Rattle.host_engine.specs.declared.code.Code.{Code}
 use Rattle.host_engine.specs.declared.refusal.Refusal.{Refusal}
-use Rattle.host_engine.specs.declared.refusal.Refusal.TheVariants.{Read, Size, Script, Assembly, Write, Memory}
-use Rattle.host_engine.specs.Limits.{code_limit}
-use Rattle.host_engine.specs.InputGives.{SourceGives, SourcesGive, InputsGive}
-use Rattle.host_engine.specs.Inputs.{code_of, source_of, sources_of, HasCode, HasSources, IsFileOf, bytes_in, before, before_all, inputs_of}
+use Rattle.host_engine.specs.Assemblies.{Made, in_words, before, before_all, all_made}
+use Rattle.host_engine.specs.Commands.{code_file, origin_read, images_read, texts_judged, script_plan}
+use Rattle.host_engine.specs.Gives.{TakesMemory}
+use Rattle.host_engine.specs.Plans.{Plan, IsFile, Leads}
+use Rattle.host_engine.specs.Stages.{Onward, Refuses, IsWhy, AssemblyGives, made}
+use Rattle.host_engine.proofs.PlanLemmas.{here, onward, trans}
+use Rattle.host_engine.proofs.GivesLemmas.{refused_past}
+
+-- ---- forms
+
+pub origin_at : (before images : List ImageSpec) (i : ℕ) (image : ImageSpec) → AreImages before images → i < length images → image ≡ get_or images i image → IsOrigin image.origin
+origin_at before [] i image keep below is = absurd (omega arith)
+origin_at before (first ∷ images) zero image keep below is = subst (λ (x : ImageSpec). IsOrigin x.origin) (sym is) keep.2
+origin_at before (first ∷ images) (suc i) image keep below is = origin_at (before ++ first ∷ []) images i image keep.3 (omega arith) is
 
 -- ---- files
 
-abbrev pub behind : List Source → Option (List Source) → Option (List Source)
-behind done more = option_map (λ (sources : List Source). done ++ sources) more
+-- what follows the images of a script
+abbrev pub judged : Plain → List Made → Plan
+judged script all = texts_judged script (all_made all)
 
--- where files are told: the sources so far, and those of the rest, are the whole
-abbrev pub SoFar : Option FileMap → List ImageSpec → List Source → List ImageSpec → Type 0
-SoFar None images done rest = Unit {0}
-SoFar (Some files) images done rest = behind done (sources_of files rest) ≡ sources_of files images
+takes_judged : (script : Plain) (all : Result (List (List ℕ)) (List ℕ)) → TakesMemory (texts_judged script all)
+takes_judged script (Ok images) = tt
+takes_judged script (Err text) = tt
 
-pub begins : (told : Option FileMap) (images : List ImageSpec) → SoFar told images [] images
-begins None images = tt
-begins (Some files) images = same (sources_of files images) where
-  same : (more : Option (List Source)) → behind [] more ≡ more
-  same None = refl
-  same (Some sources) = refl
+takes_one : (name : List ℕ) (origin : Origin) (next : Made → Plan) → ((made : Made) → TakesMemory (next made)) → TakesMemory (origin_read name origin next)
+takes_one name (File file) next rest = tt
+takes_one name (Text text) next rest = rest _
 
-longer : (done : List Source) (source : Source) (more : Option (List Source)) → behind (done ++ source ∷ []) more ≡ behind done (option_map (λ (sources : List Source). source ∷ sources) more)
-longer done source None = refl
-longer done source (Some sources) = ap Some (append_assoc done (source ∷ []) sources)
+takes_read : (script : Plain) (images : List ImageSpec) (done : List Made) → TakesMemory (images_read images done (judged script))
+unfolding images_read
+takes_read script [] done = takes_judged script (all_made done)
+takes_read script (image ∷ images) done = takes_one image.name image.origin (λ made. images_read images (done ++ made ∷ []) (judged script)) (λ made. takes_read script images (done ++ made ∷ []))
 
-more : (files : FileMap) (image : ImageSpec) (found : Code) (rest : List ImageSpec) (done : List Source) → code_of files image.origin ≡ Some found
-    → behind done (option_map (λ (sources : List Source). source_of image found ∷ sources) (sources_of files rest)) ≡ behind done (sources_of files (image ∷ rest))
-unfolding sources_of
-more files image found rest done has = rw has refl
+pub takes : (script : Plain) → TakesMemory (script_plan (Ok script))
+takes script = takes_read script script.image []
 
-pub goes_on : (told : Option FileMap) (images : List ImageSpec) (done new : List Source) (i : ℕ) (image : ImageSpec) (found : Code) (source : Source) → i < length images → image ≡ get_or images i image → HasCode told image.origin found → source ≡ source_of image found
-    → new ≡ done ++ source ∷ [] → SoFar told images done (drop i images) → SoFar told images new (drop (i + 1) images)
-goes_on None images done new i image found source below is has made pushed so_far = tt
-goes_on (Some files) images done new i image found source below is has made pushed so_far =
-    let cut : drop i images ≡ image ∷ drop (i + 1) images = subst (λ (x : ImageSpec). drop i images ≡ x ∷ drop (i + 1) images) (sym is) (drop_more images i image below) in
-    let f : behind done (sources_of files (image ∷ drop (i + 1) images)) ≡ sources_of files images = rw cut at so_far in
-    rw pushed (longer done source (sources_of files (drop (i + 1) images)) ∙ rw made (more files image found (drop (i + 1) images) done has ∙ f))
+module _ (told now : Option FileMap) (script : Plain) (plan : Plan) (images : List ImageSpec) (i : ℕ) (image : ImageSpec) (codes : List Code) (below : i < length images) (is : image ≡ get_or images i image)
+    (so_far : Leads told plan (images_read (drop i images) (map made codes) (judged script))) where
+  -- what is still to be read behind the image
+  abbrev pub behind : Made → Plan
+  behind one = images_read (drop (i + 1) images) (map made codes ++ one ∷ []) (judged script)
 
-pub all_read : (told : Option FileMap) (images : List ImageSpec) (done : List Source) (i : ℕ) → length images ≤ i → SoFar told images done (drop i images) → HasSources told images done
-unfolding sources_of
-all_read None images done i past so_far = tt
-all_read (Some files) images done i past so_far =
-    let f = rw (drop_all i images past) at so_far in sym f ∙ ap Some (append-nil done)
+  pub to_image : Leads told plan (origin_read image.name image.origin behind)
+  unfolding images_read
+  to_image =
+      let cut : drop i images ≡ image ∷ drop (i + 1) images = subst (λ (x : ImageSpec). drop i images ≡ x ∷ drop (i + 1) images) (sym is) (drop_more images i image below) in
+      subst (λ (rest : List ImageSpec). Leads told plan (images_read rest (map made codes) (judged script))) cut so_far
 
-pub there : {X : Type 0} (xs : List X) (i : ℕ) (x : X) → i < length xs → x ≡ get_or xs i x → slice_get xs i ≡ Some x
-there [] i x below is = absurd (omega arith)
-there (y ∷ xs) zero x below is = ap Some (sym is)
-there (y ∷ xs) (suc i) x below is = there xs i x (omega arith) is
+  pub past_image : (new : List Code) (code : Code) → now ≡ told → new ≡ codes ++ code ∷ [] → Leads now (origin_read image.name image.origin behind) (behind (made code)) → Leads told plan (images_read (drop (i + 1) images) (map made new) (judged script))
+  past_image new code same pushed had =
+      let all : map made codes ++ made code ∷ [] ≡ map made new = sym (ap (map made) pushed ∙ map-append made codes (code ∷ [])) in
+      let step : Leads told (origin_read image.name image.origin behind) (behind (made code)) = subst (λ (t : Option FileMap). Leads t (origin_read image.name image.origin behind) (behind (made code))) same had in
+      subst (λ (done : List Made). Leads told plan (images_read (drop (i + 1) images) done (judged script))) all (trans told plan _ _ to_image step)
 
-pub is_file : (images : List ImageSpec) (i : ℕ) (image : ImageSpec) (name : List ℕ) → i < length images → image ≡ get_or images i image → image.origin ≡ File name → IsFileOf images name
-is_file images i image name below is named = record { i = i; image = image; among = there images i image below is; named = named }
+  -- the same, of what is read under a name that is the image's
+  pub had_there : (new : List Code) (code : Code) (given : List ℕ) → now ≡ told → new ≡ codes ++ code ∷ [] → given ≡ image.name → ((next : Made → Plan) → Leads now (origin_read given image.origin next) (next (made code)))
+      → Leads told plan (images_read (drop (i + 1) images) (map made new) (judged script))
+  had_there new code given same pushed named h = past_image new code same pushed (subst (λ (n : List ℕ). Leads now (origin_read n image.origin behind) (behind (made code))) named (h behind))
 
-pub rose_from : (first before behind : ℕ) → first ≤ before → Rose before behind → Rose first behind
-rose_from first before behind up (inl rose) = inl (omega arith)
-rose_from first before behind up (inr most) = inr most
+  pub refused_there : (refusal : Refusal) (f g f' l m l' : ℕ) (given : List ℕ) → Onward told now f g l m → given ≡ image.name → ((next : Made → Plan) → Refuses (origin_read given image.origin next) refusal now g m f' l') → Refuses plan refusal told f l f' l'
+  refused_there refusal f g f' l m l' given on named h =
+      refused_past plan (origin_read image.name image.origin behind) refusal told now f g f' l m l' on to_image (subst (λ (n : List ℕ). Refuses (origin_read n image.origin behind) refusal now g m f' l') named (h behind))
 
-pub reads_fail : (told now : Option FileMap) (name given : List ℕ) (first before behind : ℕ) → now ≡ told → name ≡ given → first ≤ before → Rose before behind ⊎ Lacks now given → Rose first behind ⊎ Lacks told name
-reads_fail told now name given first before behind same copied up (inl rose) = inl (rose_from first before behind up rose)
-reads_fail told now name given first before behind same copied up (inr lacks) = inr (rw (sym same, copied) lacks)
+pub all_read : (told : Option FileMap) (script : Plain) (plan : Plan) (images : List ImageSpec) (i : ℕ) (codes : List Code) → length images ≤ i → Leads told plan (images_read (drop i images) (map made codes) (judged script)) → Leads told plan (judged script (map made codes))
+unfolding images_read
+all_read told script plan images i codes past so_far = subst (λ (rest : List ImageSpec). Leads told plan (images_read rest (map made codes) (judged script))) (drop_all i images past) so_far
 
-pub is_longer : (told now : Option FileMap) (name given : List ℕ) → now ≡ told → name ≡ given → IsLonger now given code_limit → IsLonger told name code_limit
-is_longer told now name given same copied longer = rw (sym same, copied) longer
+pub begins : (told : Option FileMap) (script : Plain) (images : List ImageSpec) → images ≡ script.image → Leads told (script_plan (Ok script)) (images_read images [] (judged script))
+begins told script images same = subst (λ (l : List ImageSpec). Leads told (script_plan (Ok script)) (images_read l [] (judged script))) (sym same) (here told (script_plan (Ok script)))
 
-pub has_code : (told now : Option FileMap) (origin : Origin) (found : Code) → now ≡ told → HasCode now origin found → HasCode told origin found
-has_code told now origin found same has = rw (sym same) has
+-- a file that is read, and a text, are an image
+pub of_file : (told : Option FileMap) (name file bytes : List ℕ) (next : Made → Plan) → IsFile told (code_file file) bytes → Leads told (origin_read name (File file) next) (next (Ok bytes))
+of_file told name file bytes next is = onward told (code_file file) (λ b. next (Ok b)) bytes (next (Ok bytes)) is (here told (next (Ok bytes)))
 
-pub not_read : {Y : Type 0} (w : Y → List Source) (refusal : Refusal) (images : List ImageSpec) (i : ℕ) (image : ImageSpec) (told now : Option FileMap) (f0 l0 f l f' l' : ℕ)
-    → i < length images → image ≡ get_or images i image → now ≡ told → f0 ≤ f → l0 ≤ l
-    → SourceGives (Err refusal) image.origin now f l f' l' → SourcesGive w (Err refusal) images told f0 l0 f' l'
-not_read w (Read n) images i image told now f0 l0 f l f' l' below is same up longer-up gives =
-    (is_file images i image n below is gives.0, reads_fail told now n n f0 f f' same refl up gives.1)
-not_read w (Size n) images i image told now f0 l0 f l f' l' below is same up longer-up gives =
-    (is_file images i image n below is gives.0, rose_from l0 l l' longer-up gives.1, is_longer told now n n same refl gives.2)
-not_read w (Script text) images i image told now f0 l0 f l f' l' below is same up longer-up gives = gives
-not_read w (Assembly text) images i image told now f0 l0 f l f' l' below is same up longer-up gives = gives
-not_read w Write images i image told now f0 l0 f l f' l' below is same up longer-up gives = gives
-not_read w Memory images i image told now f0 l0 f l f' l' below is same up longer-up gives = tt
+pub of_text : (told : Option FileMap) (name text : List ℕ) (next : Made → Plan) → Leads told (origin_read name (Text text) next) (next (in_words name (assembled text)))
+of_text told name text next = here told (next (in_words name (assembled text)))
 
 -- ---- texts
 
-abbrev pub put_before : List Input → Result (List Input) (List ℕ) → Result (List Input) (List ℕ)
-put_before done (Ok inputs) = Ok (done ++ inputs)
+abbrev pub put_before : List (List ℕ) → Result (List (List ℕ)) (List ℕ) → Result (List (List ℕ)) (List ℕ)
+put_before done (Ok images) = Ok (done ++ images)
 put_before done (Err text) = Err text
 
--- the inputs so far, and those of the rest, are the whole
-abbrev pub Making : List Source → List Input → List Source → Type 0
-Making sources done rest = put_before done (inputs_of rest) ≡ inputs_of sources
+-- the images so far, and those of the rest, are the whole
+abbrev pub Making : List Code → List (List ℕ) → List Code → Type 0
+Making codes done rest = put_before done (all_made (map made rest)) ≡ all_made (map made codes)
 
-pub nothing_made : (sources : List Source) → Making sources [] sources
-nothing_made sources = same (inputs_of sources) where
-  same : (all : Result (List Input) (List ℕ)) → put_before [] all ≡ all
-  same (Ok inputs) = refl
+pub nothing_made : (codes : List Code) → Making codes [] codes
+nothing_made codes = same (all_made (map made codes)) where
+  same : (all : Result (List (List ℕ)) (List ℕ)) → put_before [] all ≡ all
+  same (Ok images) = refl
   same (Err text) = refl
 
-one_more : (done : List Input) (input : Input) (rest : Result (List Input) (List ℕ)) → put_before (done ++ input ∷ []) rest ≡ put_before done (before input rest)
-one_more done input (Ok inputs) = ap Ok (append_assoc done (input ∷ []) inputs)
-one_more done input (Err text) = refl
+one_more : (done : List (List ℕ)) (image : List ℕ) (rest : Result (List (List ℕ)) (List ℕ)) → put_before (done ++ image ∷ []) rest ≡ put_before done (before image rest)
+one_more done image (Ok images) = ap Ok (append_assoc done (image ∷ []) images)
+one_more done image (Err text) = refl
 
-of_source : (source : Source) (rest : List Source) (file : Result (List ℕ) (List ℕ)) → bytes_in source.name source.code ≡ file → inputs_of (source ∷ rest) ≡ before_all source.name file (inputs_of rest)
-unfolding inputs_of
-of_source source rest file is = rw is refl
+of_code : (code : Code) (rest : List Code) (one : Made) → made code ≡ one → all_made (map made (code ∷ rest)) ≡ before_all one (all_made (map made rest))
+unfolding all_made
+of_code code rest one is = ap (λ (m : Made). before_all m (all_made (map made rest))) is
 
-pub made_more : (sources : List Source) (done new : List Input) (rest : List Source) (source : Source) (file : List ℕ) → Making sources done (source ∷ rest) → bytes_in source.name source.code ≡ Ok file
-    → new ≡ done ++ record { name = source.name; file = file } ∷ [] → Making sources new rest
-made_more sources done new rest source file so_far is pushed =
-    let e : put_before done (before (record { name = source.name; file = file }) (inputs_of rest)) ≡ inputs_of sources = rw (of_source source rest (Ok file) is) at so_far in
-    rw pushed (one_more done (record { name = source.name; file = file }) (inputs_of rest) ∙ e)
+pub made_more : (codes : List Code) (done new : List (List ℕ)) (rest : List Code) (code : Code) (image : List ℕ) → Making codes done (code ∷ rest) → made code ≡ Ok image → new ≡ done ++ image ∷ [] → Making codes new rest
+made_more codes done new rest code image so_far is pushed =
+    let e : put_before done (before image (all_made (map made rest))) ≡ all_made (map made codes) = sym (ap (put_before done) (of_code code rest (Ok image) is)) ∙ so_far in
+    ap (λ (l : List (List ℕ)). put_before l (all_made (map made rest))) pushed ∙ one_more done image (all_made (map made rest)) ∙ e
 
-refused_at : (sources : List Source) (done : List Input) (rest : List Source) (source : Source) (text : List ℕ) → Making sources done (source ∷ rest) → bytes_in source.name source.code ≡ Err text → inputs_of sources ≡ Err text
-refused_at sources done rest source text so_far is = sym (rw (of_source source rest (Err text) is) at so_far)
+refused_at : (codes : List Code) (done : List (List ℕ)) (rest : List Code) (code : Code) (text : List ℕ) → Making codes done (code ∷ rest) → made code ≡ Err text → all_made (map made codes) ≡ Err text
+refused_at codes done rest code text so_far is = sym (sym (ap (put_before done) (of_code code rest (Err text) is)) ∙ so_far)
 
--- a source that wasn't made
-pub not_made : {X Y : Type 0} (view : X → List ℕ) (other : Y → List Input) (refusal : Refusal) (sources : List Source) (done : List Input) (rest : List Source) (source : Source) → Making sources done (source ∷ rest)
-    → InputsGive view (Err refusal) (bytes_in source.name source.code) → InputsGive other (Err refusal) (inputs_of sources)
-not_made view other (Read n) sources done rest source so_far gives = gives
-not_made view other (Size n) sources done rest source so_far gives = gives
-not_made view other (Script text) sources done rest source so_far gives = gives
-not_made view other (Assembly text) sources done rest source so_far gives = refused_at sources done rest source (string_bytes text) so_far gives
-not_made view other Write sources done rest source so_far gives = gives
-not_made view other Memory sources done rest source so_far gives = tt
+-- a text that wasn't assembled
+pub not_made : (why : Unassembled) (codes : List Code) (done : List (List ℕ)) (rest : List Code) (code : Code) → Making codes done (code ∷ rest) → IsWhy why (made code) → IsWhy why (all_made (map made codes))
+not_made (whys.Refused text) codes done rest code so_far is = refused_at codes done rest code (string_bytes text) so_far is
+not_made whys.Memory codes done rest code so_far is = tt
 
-pub all_made : (sources : List Source) (done : List Input) → Making sources done [] → inputs_of sources ≡ Ok done
-unfolding inputs_of
-all_made sources done so_far = sym so_far ∙ ap Ok (append-nil done)
+pub all_there : (codes : List Code) (done : List (List ℕ)) → Making codes done [] → all_made (map made codes) ≡ Ok done
+unfolding all_made
+all_there codes done so_far = sym so_far ∙ ap Ok (append-nil done)

@@ -5,5 +5,10 @@ pub mod RunLemmas
 pub mod LineLemmas
 pub mod JobLemmas
 pub mod StepLemmas
+pub mod PlanLemmas
+pub mod GivesLemmas
+pub mod BuildLemmas
 pub mod InputLemmas
-pub mod FilesLemmas
+pub mod RunPlanLemmas
+pub mod PlaceLemmas
+pub mod CompleteLemmas

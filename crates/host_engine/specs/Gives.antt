@@ -1,5 +1,5 @@
 -- What the program answers, what it puts, and why.
-use Rattle.std.specs.Prelude.{ℕ, ◌≡◌, ◌≤◌, ◌++◌, ◌∷◌, ◌⊎◌, [], List, length, Bool, true, false, Option, Some, None, Result, Ok, Err, codes, string_bytes}
+use Rattle.std.specs.Prelude.{ℕ, ◌≡◌, ◌++◌, ◌∷◌, ◌⊎◌, [], List, Bool, true, false, Option, Some, None, Result, Ok, Err, codes, string_bytes}
 use Rattle.uh_base.specs.Counts.{Rose}
 use Rattle.uh_base.specs.Told.{FileMap, Lacks, IsLonger, grown, GrownByPart}
 use Rattle.host_engine.specs.declared.refusal.Refusal.{Refusal}
@@ -7,8 +7,9 @@ use Rattle.host_engine.specs.declared.refusal.Refusal.TheVariants as why
 use Rattle.host_engine.specs.declared.status.Status.{Status}
 use Rattle.host_engine.specs.declared.status.Status.TheVariants.{Done, Halted, Words, Script, Read, Size, Write, Memory, Assembly}
 use Rattle.host_engine.specs.Outside.{Outside}
-use Rattle.host_engine.specs.Prints.{Prints, IsRead, IsRefused, IsNotAssembled}
-use Rattle.host_engine.specs.Words.{Command, Help, Version, Flat, Build, Run}
+use Rattle.host_engine.specs.Commands.{plan_of}
+use Rattle.host_engine.specs.Plans.{Wanted, Way, Fixed, ByLines, Answer, Prints, ScriptRefused, NotAssembled, Plan, Over, first_missing, Leads, IsRead, IsMissing}
+use Rattle.host_engine.specs.Words.{Command}
 
 -- the exit status of an answer
 abbrev pub code_of : Status → ℕ
@@ -22,51 +23,62 @@ code_of Memory = 6
 code_of Size = 7
 code_of Assembly = 8
 
--- The whole text of a command was put, and the command ends so.
-pub record PutWhole (command : Command) (halted : Bool) (old new : Outside) : Type 0 where
+-- The whole text of a plan was put, and its run is halted or not.
+pub record PutWhole (plan : Plan) (halted : Bool) (old new : Outside) : Type 0 where
+  pub way : Way
   pub text : List ℕ
-  pub prints : Prints command old.files text halted
+  pub comes : Leads old.files plan (Over (Prints way text halted))
   pub put : new.out ≡ grown old.out text
 
 -- A part of it was put, from its front.
-pub record PutPart (command : Command) (old new : Outside) : Type 0 where
+pub record PutPart (way : Way) (plan : Plan) (old new : Outside) : Type 0 where
   pub text : List ℕ
   pub halted : Bool
-  pub prints : Prints command old.files text halted
+  pub comes : Leads old.files plan (Over (Prints way text halted))
   pub put : GrownByPart old.out text new.out
 
--- A file that the command reads couldn't be read, and nothing was put.
-pub record Unread (command : Command) (wanted : List ℕ) (old new : Outside) : Type 0 where
-  pub most : ℕ
-  pub is_read : IsRead command old.files wanted most
-  pub cause : Rose old.file_faults new.file_faults ⊎ Lacks old.files wanted
+-- A read of a file failed in this call; or, where files are told, it isn't there, and it is the first that is missing.
+-- Nothing was put.
+pub record Unread (plan : Plan) (name : List ℕ) (old new : Outside) : Type 0 where
+  pub wanted : Wanted
+  pub named : name ≡ wanted.name
+  pub is_read : IsRead old.files plan wanted
+  pub cause : Rose old.file_faults new.file_faults ⊎ (IsMissing old.files plan wanted × Lacks old.files wanted.name)
   pub nothing_put : new.out ≡ old.out
 
--- A file that the command reads is longer than its limit, and nothing was put.
-pub record TooLong (command : Command) (wanted : List ℕ) (old new : Outside) : Type 0 where
-  pub most : ℕ
-  pub is_read : IsRead command old.files wanted most
+-- A file was found too long in this call; where files are told, it is, and it is the first that is missing. Nothing was
+-- put.
+pub record TooLong (plan : Plan) (name : List ℕ) (old new : Outside) : Type 0 where
+  pub wanted : Wanted
+  pub named : name ≡ wanted.name
+  pub is_read : IsRead old.files plan wanted
   pub rose : Rose old.longs new.longs
-  pub longer : IsLonger old.files wanted most
+  pub missing : IsMissing old.files plan wanted
+  pub longer : IsLonger old.files wanted.name wanted.most
   pub nothing_put : new.out ≡ old.out
 
--- Memory was wanting: before anything was put, or in the run of a script.
-abbrev pub Wanting : Command → Outside → Outside → Type 0
-Wanting Help old new = ⊥
-Wanting Version old new = ⊥
-Wanting (Flat name bound) old new = new.out ≡ old.out
-Wanting (Build name) old new = new.out ≡ old.out
-Wanting (Run name) old new = (new.out ≡ old.out) ⊎ PutPart (Run name) old new
+-- A fixed text takes no memory.
+abbrev pub TakesMemory : Plan → Type 0
+TakesMemory (Over (Prints Fixed text halted)) = ⊥
+TakesMemory plan = Unit {0}
 
--- What a command may answer, with the cause and with what was put; true where the run is halted.
-abbrev pub CommandGives : Command → Result Bool Refusal → Outside → Outside → Type 0
-CommandGives command (Ok halted) old new = PutWhole command halted old new
-CommandGives command (Err (why.Read wanted)) old new = Unread command wanted old new
-CommandGives command (Err (why.Size wanted)) old new = TooLong command wanted old new
-CommandGives command (Err (why.Script text)) old new = IsRefused command old.files (string_bytes text) × (new.out ≡ old.out)
-CommandGives command (Err (why.Assembly text)) old new = IsNotAssembled command old.files (string_bytes text) × (new.out ≡ old.out)
-CommandGives command (Err why.Write) old new = Rose old.out_faults new.out_faults × PutPart command old new
-CommandGives command (Err why.Memory) old new = Wanting command old new
+-- Memory was wanting: before anything was put, or between lines.
+abbrev pub Wanting : Plan → Outside → Outside → Type 0
+Wanting plan old new = TakesMemory plan × ((new.out ≡ old.out) ⊎ PutPart ByLines plan old new)
+
+-- A plan comes to this answer, and nothing was put.
+abbrev pub Refused : Plan → Answer → Outside → Outside → Type 0
+Refused plan answer old new = Leads old.files plan (Over answer) × (new.out ≡ old.out)
+
+-- What a command may answer, with the cause and with what was put; true where its run is halted.
+abbrev pub CommandGives : Plan → Result Bool Refusal → Outside → Outside → Type 0
+CommandGives plan (Ok halted) old new = PutWhole plan halted old new
+CommandGives plan (Err (why.Read name)) old new = Unread plan name old new
+CommandGives plan (Err (why.Size name)) old new = TooLong plan name old new
+CommandGives plan (Err (why.Script text)) old new = Refused plan (ScriptRefused (string_bytes text)) old new
+CommandGives plan (Err (why.Assembly text)) old new = Refused plan (NotAssembled (string_bytes text)) old new
+CommandGives plan (Err why.Write) old new = Rose old.out_faults new.out_faults × ((way : Way) × PutPart way plan old new)
+CommandGives plan (Err why.Memory) old new = Wanting plan old new
 
 -- ---- the status, and what is said to the error output
 
@@ -115,35 +127,25 @@ ErrGives Memory text old faults new faults' = Says (message (codes "memory") [])
 abbrev pub HostGives : Option Command → Status → Outside → Outside → Option (List ℕ) → ℕ → Option (List ℕ) → ℕ → Type 0
 HostGives None status old new err faults err' faults' = (status ≡ Words) × (new.out ≡ old.out) × ErrGives status [] err faults err' faults'
 HostGives (Some command) status old new err faults err' faults' =
-    (answer : Result Bool Refusal) × CommandGives command answer old new × (status ≡ status_of answer) × ErrGives status (text_in answer) err faults err' faults'
+    (answer : Result Bool Refusal) × CommandGives (plan_of command) answer old new × (status ≡ status_of answer) × ErrGives status (text_in answer) err faults err' faults'
 
--- ---- a command is whole where all is there and nothing fails
+-- ---- where files are told and no read fails, the files that are there decide
 
--- Every file that a command reads is there, within its limit.
-abbrev pub AllThere : Command → FileMap → Type 0
-AllThere command files = (wanted : List ℕ) (most : ℕ) → IsRead command (Some files) wanted most → (file : List ℕ) × (files wanted ≡ Some file) × (length file ≤ most)
+-- the answer for the first file that isn't there within its limit, which has these bytes, if it is there at all
+abbrev pub MissingGives : Option (List ℕ) → Status → Type 0
+MissingGives None status = (status ≡ Read) ⊎ (status ≡ Memory)
+MissingGives (Some bytes) status = (status ≡ Size) ⊎ (status ≡ Memory)
 
-pub record IsSmooth (command : Command) (old new : Outside) : Type 0 where
-  pub files : FileMap
-  pub told : old.files ≡ Some files
-  pub there : AllThere command files
-  pub no_read_failed : ¬ Rose old.file_faults new.file_faults
-  pub no_put_failed : ¬ Rose old.out_faults new.out_faults
+-- All files are there: all is put, or a script or a text is refused, unless a put fails or memory is wanting.
+abbrev pub ThereGives : Status → Outside → Outside → Type 0
+ThereGives status old new =
+    ¬ Rose old.out_faults new.out_faults → (status ≡ Done) ⊎ ((status ≡ Halted) ⊎ ((status ≡ Script) ⊎ ((status ≡ Assembly) ⊎ (status ≡ Memory))))
 
--- all was put, or a script or a text is refused
-abbrev pub IsOver : Result Bool Refusal → Type 0
-IsOver (Ok halted) = Unit {0}
-IsOver (Err (why.Read name)) = ⊥
-IsOver (Err (why.Size name)) = ⊥
-IsOver (Err (why.Script text)) = Unit {0}
-IsOver (Err (why.Assembly text)) = Unit {0}
-IsOver (Err why.Write) = ⊥
-IsOver (Err why.Memory) = ⊥
+abbrev pub FilesGive : FileMap → Option Wanted → Status → Outside → Outside → Type 0
+FilesGive files None status old new = ThereGives status old new
+FilesGive files (Some wanted) status old new = MissingGives (files wanted.name) status
 
-abbrev pub IsWhole : Command → Status → Outside → Outside → Type 0
-IsWhole command status old new = (answer : Result Bool Refusal) × CommandGives command answer old new × (status ≡ status_of answer) × IsOver answer
-
--- Where nothing fails and the files are there, the command is whole, or memory was wanting.
 abbrev pub IsComplete : Option Command → Status → Outside → Outside → Type 0
 IsComplete None status old new = status ≡ Words
-IsComplete (Some command) status old new = IsSmooth command old new → IsWhole command status old new ⊎ (status ≡ Memory)
+IsComplete (Some command) status old new =
+    (files : FileMap) → old.files ≡ Some files → ¬ Rose old.file_faults new.file_faults → FilesGive files (first_missing files (plan_of command)) status old new

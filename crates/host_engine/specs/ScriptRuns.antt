@@ -1,10 +1,13 @@
 -- The run of a script: the lines of its steps, in order.
-use Rattle.std.specs.Prelude.{◌≡◌, ℕ, List, [], ◌∷◌, ◌++◌, length, nat_le, Bool, true, false, Option, Some, None, Result, Ok, Err, if◌then◌else◌}
+use Rattle.std.specs.Prelude.{◌≡◌, ℕ, List, [], ◌∷◌, ◌++◌, length, nat_le, ◌==◌, slice_index_or, Bool, true, false, Option, Some, None, Result, Ok, Err, if◌then◌else◌}
+use Rattle.std.specs.List.{position_or_len}
 use Rattle.std.specs.Str.{bytes_eq}
-use Rattle.uh_base.specs.Statuses.{load_error, invalid_parameter, not_found}
+use Rattle.uh_base.specs.Statuses.{load_error, invalid_parameter}
 use Rattle.uh_base.specs.Told.{grown}
 use Rattle.record_text.specs.declared.line.Line.{Line}
 use Rattle.record_text.specs.declared.line.Line.TheVariants as lines
+use Rattle.host_script.specs.Plain.{Plain}
+use Rattle.host_script.specs.declared.script.ImageSpec.{ImageSpec}
 use Rattle.host_script.specs.declared.script.Step.{Step}
 use Rattle.host_script.specs.declared.script.Step.TheVariants.{Load, Start}
 use Rattle.firmware_core.specs.declared.machine.LoadedImage.{LoadedImage}
@@ -14,14 +17,17 @@ use Rattle.firmware_core.specs.Opening.{opened}
 use Rattle.host_engine.specs.Limits.{code_limit}
 use Rattle.host_engine.specs.declared.job.JobEnd.{JobEnd}
 use Rattle.host_engine.specs.declared.job.JobEnd.TheVariants.{Returned, Halted}
-use Rattle.host_engine.specs.declared.script_run.Input.{Input}
+use Rattle.host_engine.specs.Inputs.{Inputs}
 use Rattle.host_engine.specs.declared.script_run.Running.{Running}
 use Rattle.host_engine.specs.Jobs.{Job, job_of, bytes_of}
 
--- the file of the image with a name
-unfoldable pub file_of : List Input → List ℕ → Option (List ℕ)
-file_of [] name = None
-file_of (input ∷ inputs) name = if bytes_eq input.name name then Some input.file else file_of inputs name
+-- the place of an image among those of a script, by its name
+abbrev pub place_of : List ImageSpec → List ℕ → ℕ
+place_of images name = position_or_len (λ image. bytes_eq image.name name) images
+
+-- the file at a place
+abbrev pub file_at : List (List ℕ) → ℕ → List ℕ
+file_at files place = slice_index_or files place []
 
 -- a step's lines, whether the run ends with it, and the run behind it
 pub record Stepped : Type 0 where
@@ -39,21 +45,21 @@ abbrev pub pages_of : Option LoadedImage → ℕ
 pages_of None = 0
 pages_of (Some image) = image.pages
 
-abbrev pub loaded : List ℕ → Running → Result State ℕ → Stepped
-loaded name r (Ok machine) = record {
+abbrev pub loaded : List ℕ → ℕ → Running → Result State ℕ → Stepped
+loaded name place r (Ok machine) = record {
   lines = lines.Load name 0 (base_of machine.image) (pages_of machine.image) ∷ [];
   halted = false;
-  running = record { machine = machine; name = name };
+  running = record { machine = machine; place = place };
 }
-loaded name r (Err status) = record { lines = lines.Load name status 0 0 ∷ []; halted = false; running = r }
+loaded name place r (Err status) = record { lines = lines.Load name status 0 0 ∷ []; halted = false; running = r }
 
 -- a file has at most 4 MiB
-abbrev pub file_loaded : State → Option (List ℕ) → Result State ℕ
-file_loaded machine None = Err not_found
-file_loaded machine (Some file) = if nat_le (length file) code_limit then load_of machine file else Err load_error
+abbrev pub file_loaded : State → List ℕ → Result State ℕ
+file_loaded machine file = if nat_le (length file) code_limit then load_of machine file else Err load_error
 
-unfoldable pub load_step : List Input → List ℕ → Running → Stepped
-load_step inputs name r = loaded name r (file_loaded r.machine (file_of inputs name))
+-- the load of an image by its name, its place and its file
+unfoldable pub load_made : List ℕ → ℕ → List ℕ → Running → Stepped
+load_made name place file r = loaded name place r (file_loaded r.machine file)
 
 -- ---- start
 
@@ -61,11 +67,11 @@ abbrev pub not_started : Option LoadedImage → Option LoadedImage
 not_started None = None
 not_started (Some image) = if image.started then None else Some image
 
--- the image that was loaded last under a name, if it is still there and wasn't started
-abbrev pub startable : List ℕ → Running → Option LoadedImage
-startable name r = if bytes_eq r.name name then not_started r.machine.image else None
+-- the image at a place of the script, if it was loaded last, is still there and wasn't started
+abbrev pub startable : ℕ → Running → Option LoadedImage
+startable place r = if r.place == place then not_started r.machine.image else None
 
--- the line and the state that the end of a job leaves; `name` is the step's, `under` that of the last load
+-- the line and the state that the end of a job leaves
 abbrev pub last_line : List ℕ → ℕ → JobEnd → Line
 last_line name steps (Returned status) = lines.Start name status steps
 last_line name steps (Halted cause pc address) = lines.Halt cause pc address
@@ -78,29 +84,30 @@ abbrev pub is_halt : JobEnd → Bool
 is_halt (Returned status) = false
 is_halt (Halted cause pc address) = true
 
-abbrev pub job_over : List ℕ → List ℕ → Job → Stepped
-job_over name under job = record {
+abbrev pub job_over : List ℕ → ℕ → Job → Stepped
+job_over name place job = record {
   lines = job.lines ++ last_line name job.steps job.end ∷ [];
   halted = is_halt job.end;
-  running = record { machine = left_behind job.state job.end; name = under };
+  running = record { machine = left_behind job.state job.end; place = place };
 }
 
 -- a job of an image, from its beginning
 unfoldable pub image_run : List ℕ → ℕ → Running → LoadedImage → Stepped
-image_run name bound r image = job_over name r.name (job_of bound (begun r.machine image))
+image_run name bound r image = job_over name r.place (job_of bound (begun r.machine image))
 
 abbrev pub started : List ℕ → ℕ → Running → Option LoadedImage → Stepped
 started name bound r None = record { lines = lines.Start name invalid_parameter 0 ∷ []; halted = false; running = r }
 started name bound r (Some image) = image_run name bound r image
 
-unfoldable pub start_step : List ℕ → ℕ → Running → Stepped
-start_step name bound r = started name bound r (startable name r)
+-- the start of an image by its name and its place
+unfoldable pub start_made : List ℕ → ℕ → ℕ → Running → Stepped
+start_made name place bound r = started name bound r (startable place r)
 
 -- ---- the run
 
-abbrev pub step_of : List Input → Step → Running → Stepped
-step_of inputs (Load name) r = load_step inputs name r
-step_of inputs (Start name bound) r = start_step name bound r
+abbrev pub step_made : Plain → Inputs → Step → Running → Stepped
+step_made script inputs (Load name) r = load_made name (place_of script.image name) (file_at inputs.images (place_of script.image name)) r
+step_made script inputs (Start name bound) r = start_made name (place_of script.image name) bound r
 
 -- the lines of a run, and whether its last line is a halt
 pub record Run : Type 0 where
@@ -110,17 +117,17 @@ pub record Run : Type 0 where
 abbrev pub then_run : Stepped → Run → Run
 then_run step rest = if step.halted then record { lines = step.lines; halted = true } else record { lines = step.lines ++ rest.lines; halted = rest.halted }
 
-unfoldable pub run_from : List Input → Running → List Step → Run
-run_from inputs r [] = record { lines = lines.End ∷ []; halted = false }
-run_from inputs r (step ∷ steps) = then_run (step_of inputs step r) (run_from inputs (step_of inputs step r).running steps)
+unfoldable pub run_from : Plain → Inputs → Running → List Step → Run
+run_from script inputs r [] = record { lines = lines.End ∷ []; halted = false }
+run_from script inputs r (step ∷ steps) = then_run (step_made script inputs step r) (run_from script inputs (step_made script inputs step r).running steps)
 
 -- 4,096 pages of RAM from an address on, and no image loaded
 abbrev pub at_opening : ℕ → Running
-at_opening ram_base = record { machine = opened ram_base 4096; name = [] }
+at_opening ram_base = record { machine = opened ram_base 4096; place = 0 }
 
--- the run of the steps of a script over the files of its images
-unfoldable pub run_of : ℕ → List Input → List Step → Run
-run_of ram_base inputs steps = run_from inputs (at_opening ram_base) steps
+-- the run of a script over the files of its images
+unfoldable pub run_of : Plain → Inputs → Run
+run_of script inputs = run_from script inputs (at_opening script.ram_base) script.step
 
 -- A step was made so, with its lines put.
 pub record Made (whole : Stepped) (halted : Bool) (running : Running) (old new : Option (List ℕ)) : Type 0 where

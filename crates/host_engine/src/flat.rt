@@ -2,12 +2,12 @@
 #![tactic(auto)]
 
 ghost use Rattle.std.specs.Prelude.{◌≡◌, ◌≤◌, length, IfOk};
+ghost use Rattle.host_engine.specs.Commands.{plan_of, halts};
 ghost use Rattle.host_engine.specs.FlatRuns.{flat_end};
 ghost use Rattle.host_engine.specs.Gives.{CommandGives};
 ghost use Rattle.host_engine.specs.Limits.{code_limit};
 ghost use Rattle.host_engine.specs.Lines.{flat_text};
 ghost use Rattle.host_engine.specs.Outside.{outside};
-ghost use Rattle.host_engine.specs.Prints.{halts};
 ghost use Rattle.host_engine.specs.Views.{cause_of};
 ghost use Rattle.host_engine.specs.Words.{Flat};
 
@@ -53,7 +53,7 @@ pub fn flat<F: Files, O: Sink>(
     files: &mut F,
     out: &mut O,
 ) -> Result<bool, Refusal>
-    ensures { CommandGives (Flat name.now bound) result
+    ensures { CommandGives (plan_of (Flat name.now bound)) result
         (outside (F.told files.old) (F.faults files.old) (F.longs files.old) (O.written out.old) (O.faults out.old))
         (outside (F.told files.new) (F.faults files.new) (F.longs files.new) (O.written out.new) (O.faults out.new)) }
 {

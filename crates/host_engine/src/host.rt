@@ -2,6 +2,7 @@
 #![tactic(auto)]
 
 ghost use Rattle.std.specs.Prelude.{◌≡◌, map, string_bytes};
+ghost use Rattle.host_engine.specs.Commands.{plan_of};
 ghost use Rattle.host_engine.specs.Outside.{outside};
 ghost use Rattle.host_engine.specs.Texts.{help_text, version_text};
 ghost use Rattle.host_engine.specs.Gives.{CommandGives, text_in, HostGives, IsComplete};
@@ -41,7 +42,7 @@ const VERSION: &str = "uefihost 0.1.0\n";
 
 /// Puts the text that explains the program.
 fn help<F: Files, O: Sink>(files: &F, out: &mut O) -> Result<bool, Refusal>
-    ensures { CommandGives Help result
+    ensures { CommandGives (plan_of Help) result
         (outside (F.told files.now) (F.faults files.now) (F.longs files.now) (O.written out.old) (O.faults out.old))
         (outside (F.told files.now) (F.faults files.now) (F.longs files.now) (O.written out.new) (O.faults out.new)) }
 {
@@ -53,7 +54,7 @@ fn help<F: Files, O: Sink>(files: &F, out: &mut O) -> Result<bool, Refusal>
 
 /// Puts the program's name and version.
 fn version<F: Files, O: Sink>(files: &F, out: &mut O) -> Result<bool, Refusal>
-    ensures { CommandGives Version result
+    ensures { CommandGives (plan_of Version) result
         (outside (F.told files.now) (F.faults files.now) (F.longs files.now) (O.written out.old) (O.faults out.old))
         (outside (F.told files.now) (F.faults files.now) (F.longs files.now) (O.written out.new) (O.faults out.new)) }
 {
@@ -70,7 +71,7 @@ fn obey<F: Files, O: Sink>(
     files: &mut F,
     out: &mut O,
 ) -> Result<bool, Refusal>
-    ensures { CommandGives (asked command.entry) result
+    ensures { CommandGives (plan_of (asked command.entry)) result
         (outside (F.told files.old) (F.faults files.old) (F.longs files.old) (O.written out.old) (O.faults out.old))
         (outside (F.told files.new) (F.faults files.new) (F.longs files.new) (O.written out.new) (O.faults out.new)) }
 {

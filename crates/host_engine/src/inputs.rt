@@ -1,116 +1,112 @@
 //! The images of a script: their files are read, and then their texts are assembled.
 #![tactic(auto)]
 
-ghost use Rattle.std.specs.Prelude.{◌≡◌, ◌≤◌};
-ghost use Rattle.host_engine.specs.InputGives.{SourceGives, SourcesGive, InputsGive};
-ghost use Rattle.host_engine.specs.Inputs.{bytes_in, inputs_of};
+ghost use Rattle.std.specs.Prelude.{◌≡◌, ◌<◌, [], IfOk, IfErr, map, length, Ok};
+ghost use Rattle.host_script.specs.Forms.{IsOrigin, AreImages};
+ghost use Rattle.host_engine.specs.Assemblies.{Made, in_words, all_made};
+ghost use Rattle.host_engine.specs.Commands.{origin_read, script_plan, texts_judged};
+ghost use Rattle.host_engine.specs.Plans.{Plan, Leads};
+ghost use Rattle.host_engine.specs.Stages.{Onward, Refuses, AssemblyGives, made};
 
-use crate::assembly::assembly;
+use crate::assembly::{Unassembled, assembly};
+use crate::code::{Code, Listing};
 use crate::limits::CODE_LIMIT;
 use crate::refusal::{Refusal, read_file};
-use crate::script_run::Input;
-use host_script::{ImageSpec, Origin};
+use host_script::{Origin, Script};
 use std::alloc::Global;
-use uh_base::{Bytes, Files, Text};
+use std::marker::Model;
+use uh_base::Files;
 
-/// What an image is made of.
+/// What the steps of a script are run over.
 #[derive(Drop)]
-pub enum Code {
-    /// The bytes of its file.
-    Image(Bytes),
-    /// A text that is still to be assembled.
-    Assembly(Text),
+pub struct Inputs {
+    /// The bytes of the script's images, in the script's order.
+    pub images: Vec<Vec<u8>>,
 }
 
-/// What an image is made of, under the image's name.
-#[derive(Drop)]
-pub struct Source {
-    /// The name.
-    pub name: Text,
-    /// What it is made of.
-    pub code: Code,
+impl Model for Inputs {
+    ghost use Rattle.std.specs.Prelude.{map};
+    ghost use Rattle.host_engine.specs.Inputs.{Inputs};
+
+    ghost Value = { Inputs };
+
+    ghost view = { λ inputs. record { images = map (λ image. image.items) inputs.images.items } };
 }
 
 /// What an image is made of: its text, or the bytes of its file, of which there are at most 4 MiB.
-fn code_of<F: Files>(alloc: Global, origin: &Origin, files: &mut F) -> Result<Code, Refusal>
-    ensures gives { SourceGives result origin.now (F.told files.old) (F.faults files.old) (F.longs files.old) (F.faults files.new) (F.longs files.new) }
-    ensures told { F.told files.new ≡ F.told files.old }
-    ensures faults { F.faults files.old ≤ F.faults files.new }
-    ensures longs { F.longs files.old ≤ F.longs files.new }
+fn code_of<'a, F: Files>(
+    alloc: Global,
+    name: &'a str,
+    origin: &'a Origin,
+    files: &mut F,
+) -> Result<Code<'a>, Refusal>
+    requires { IsOrigin origin.now }
+    ensures had { IfOk result (λ code. (next : Made → Plan) → Leads (F.told files.old) (origin_read name.now origin.now next) (next (made code))) }
+    ensures refused { IfErr result (λ refusal. (next : Made → Plan) → Refuses (origin_read name.now origin.now next) refusal (F.told files.old) (F.faults files.old) (F.longs files.old) (F.faults files.new) (F.longs files.new)) }
+    ensures onward { Onward (F.told files.old) (F.told files.new) (F.faults files.old) (F.faults files.new) (F.longs files.old) (F.longs files.new) }
 {
     match origin {
-        Origin::File(name) => match read_file(alloc, name.as_str(), CODE_LIMIT, files) {
-            Ok(file) => Ok(Code::Image(Bytes::from_vec(file))),
+        Origin::File(file) => match read_file(alloc, file.as_str(), CODE_LIMIT, files) {
+            Ok(bytes) => Ok(Code::File(bytes)),
             Err(refusal) => Err(refusal),
         },
-        Origin::Text(text) => match Text::new(alloc, text.as_str()) {
-            Ok(text) => Ok(Code::Assembly(text)),
-            Err(_) => Err(Refusal::Memory),
-        },
+        Origin::Text(text) => Ok(Code::Text(Listing {
+            name,
+            text: text.as_str(),
+        })),
     }
 }
 
-/// Reads the files of images in their order.
-pub fn read_sources<F: Files>(
+/// Reads the files of a script's images in their order.
+pub fn read_images<'a, F: Files>(
     alloc: Global,
-    images: &[ImageSpec],
+    script: &'a Script,
     files: &mut F,
-) -> Result<Vec<Source>, Refusal>
-    ensures gives { SourcesGive (λ sources. sources.items) result images.now (F.told files.old) (F.faults files.old) (F.longs files.old) (F.faults files.new) (F.longs files.new) }
-    ensures told { F.told files.new ≡ F.told files.old }
-    ensures faults { F.faults files.old ≤ F.faults files.new }
-    ensures longs { F.longs files.old ≤ F.longs files.new }
+) -> Result<Vec<Code<'a>>, Refusal>
+    requires { AreImages [] script.now.image }
+    ensures had { IfOk result (λ codes. Leads (F.told files.old) (script_plan (Ok script.now)) (texts_judged script.now (all_made (map made codes.items)))) }
+    ensures many { IfOk result (λ codes. length codes.items ≡ length script.now.image) }
+    ensures refused { IfErr result (λ refusal. Refuses (script_plan (Ok script.now)) refusal (F.told files.old) (F.faults files.old) (F.longs files.old) (F.faults files.new) (F.longs files.new)) }
+    ensures onward { Onward (F.told files.old) (F.told files.new) (F.faults files.old) (F.faults files.new) (F.longs files.old) (F.longs files.new) }
 {
-    let mut sources = Vec::new(alloc);
+    let images = script.image.as_slice();
+    let mut codes = Vec::new(alloc);
     for image in images {
-        let code = match code_of(alloc, &image.origin, files) {
+        let code = match code_of(alloc, image.name.as_str(), &image.origin, files) {
             Ok(code) => code,
             Err(refusal) => return Err(refusal),
         };
-        let source = match Text::new(alloc, image.name.as_str()) {
-            Ok(name) => Source { name, code },
-            Err(_) => return Err(Refusal::Memory),
-        };
-        if sources.push(source).is_err() {
+        if codes.push(code).is_err() {
             return Err(Refusal::Memory);
         }
     }
-    Ok(sources)
+    Ok(codes)
 }
 
-/// The bytes of an image under its name: those of its file, or those that its text is assembled to.
-fn bytes_in(alloc: Global, name: &str, code: Code) -> Result<Bytes, Refusal>
-    ensures { InputsGive (λ bytes. bytes) result (bytes_in name.now code) }
+/// The bytes of an image: those of its file, or those that its text is assembled to.
+fn image_of(alloc: Global, code: Code<'_>) -> Result<Vec<u8>, Unassembled>
+    ensures { AssemblyGives (λ image. image.items) result (made code.entry) }
 {
     match code {
-        Code::Image(bytes) => Ok(bytes),
-        Code::Assembly(text) => {
-            // A script of at most 1 MiB has no text of 4 GiB.
-            if text.as_str().len() >= u32::MAX as usize {
-                return Err(Refusal::Memory);
-            }
-            match assembly(alloc, name, text.as_str()) {
-                Ok(image) => Ok(Bytes::from_vec(image)),
-                Err(refusal) => Err(refusal),
-            }
-        }
+        Code::File(bytes) => Ok(bytes),
+        Code::Text(listing) => assembly(alloc, listing.name, listing.text),
     }
 }
 
-/// Assembles the texts among sources, in their order.
-pub fn make_inputs(alloc: Global, sources: Vec<Source>) -> Result<Vec<Input>, Refusal>
-    ensures { InputsGive (λ inputs. inputs.items) result (inputs_of sources.items) }
+/// Assembles the texts among images, in their order.
+pub fn assemble_texts(alloc: Global, codes: Vec<Code<'_>>) -> Result<Vec<Vec<u8>>, Unassembled>
+    ensures gives { AssemblyGives (λ images. map (λ image. image.items) images.items) result (all_made (map made codes.entry.items)) }
+    ensures many { IfOk result (λ images. length images.items ≡ length codes.entry.items) }
 {
-    let mut inputs = Vec::new(alloc);
-    for source in sources {
-        let Source { name, code } = source;
-        let file = match bytes_in(alloc, name.as_str(), code) {
-            Ok(file) => file,
-            Err(refusal) => return Err(refusal),
+    let mut images = Vec::new(alloc);
+    for code in codes {
+        let image = match image_of(alloc, code) {
+            Ok(image) => image,
+            Err(why) => return Err(why),
         };
-        if inputs.push(Input { name, file }).is_err() {
-            return Err(Refusal::Memory);
+        if images.push(image).is_err() {
+            return Err(Unassembled::Memory);
         }
     }
-    Ok(inputs)
+    Ok(images)
 }

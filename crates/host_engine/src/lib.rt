@@ -3,6 +3,7 @@
 
 mod assembly;
 mod build;
+mod code;
 mod command;
 mod flat;
 mod flat_line;
@@ -20,6 +21,9 @@ mod status;
 
 pub use flat_run::run_reaches_its_end;
 pub use host::host_main;
+pub use inputs::Inputs;
+pub use message::explain;
+pub use script_run::{Outcome, run_script};
 pub use status::Status;
 
 #[cfg(test)]

@@ -1,7 +1,9 @@
 //! Why the text of a command wasn't put whole.
-ghost use Rattle.std.specs.Prelude.{◌≡◌, ◌≤◌};
-ghost use Rattle.host_engine.specs.Refusals.{FileGives};
+ghost use Rattle.std.specs.Prelude.{◌≡◌, ℕ, List, IfOk, IfErr};
+ghost use Rattle.host_engine.specs.Plans.{Plan, Reads, IsFile};
+ghost use Rattle.host_engine.specs.Stages.{Onward, Refuses};
 
+use crate::assembly::Unassembled;
 use std::alloc::Global;
 use uh_base::{FileEnd, Files, Text};
 
@@ -22,6 +24,21 @@ pub enum Refusal {
     Memory,
 }
 
+impl Refusal {
+    ghost use Rattle.std.specs.Prelude.{◌≡◌};
+    ghost use Rattle.host_engine.specs.Stages.{refusal_of};
+
+    /// The refusal for a text that isn't assembled.
+    pub fn of_text(why: Unassembled) -> Refusal
+        ensures { result ≡ refusal_of why }
+    {
+        match why {
+            Unassembled::Refused(text) => Refusal::Assembly(text),
+            Unassembled::Memory => Refusal::Memory,
+        }
+    }
+}
+
 /// Reads a file of at most `most` bytes.
 pub fn read_file<F: Files>(
     alloc: Global,
@@ -29,10 +46,9 @@ pub fn read_file<F: Files>(
     most: usize,
     files: &mut F,
 ) -> Result<Vec<u8>, Refusal>
-    ensures gives { FileGives (λ file. file.items) result name.now most (F.told files.old) (F.faults files.old) (F.longs files.old) (F.faults files.new) (F.longs files.new) }
-    ensures told { F.told files.new ≡ F.told files.old }
-    ensures faults { F.faults files.old ≤ F.faults files.new }
-    ensures longs { F.longs files.old ≤ F.longs files.new }
+    ensures had { IfOk result (λ file. IsFile (F.told files.old) (record { name = name.now; most = most }) file.items) }
+    ensures refused { IfErr result (λ refusal. (next : List ℕ → Plan) → Refuses (Reads (record { name = name.now; most = most }) next) refusal (F.told files.old) (F.faults files.old) (F.longs files.old) (F.faults files.new) (F.longs files.new)) }
+    ensures onward { Onward (F.told files.old) (F.told files.new) (F.faults files.old) (F.faults files.new) (F.longs files.old) (F.longs files.new) }
 {
     let end = match files.read(alloc, name, most) {
         Ok(file) => return Ok(file),

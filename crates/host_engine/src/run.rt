@@ -1,14 +1,17 @@
 //! The command `run SCRIPT`.
 #![tactic(auto)]
 
-ghost use Rattle.std.specs.Prelude.{◌≡◌, ◌≤◌, IfOk, string_bytes};
+ghost use Rattle.std.specs.Prelude.{◌≡◌, IfOk, IfErr, Ok, length, string_bytes};
+ghost use Rattle.host_script.specs.Forms.{IsScript};
+ghost use Rattle.host_engine.specs.Commands.{plan_of, script_plan, run_answer, place_text};
 ghost use Rattle.host_engine.specs.Outside.{outside};
 ghost use Rattle.host_engine.specs.Gives.{CommandGives};
-ghost use Rattle.host_engine.specs.Prints.{place_text};
-ghost use Rattle.host_engine.specs.ScriptGives.{ScriptGives};
+ghost use Rattle.host_engine.specs.Plans.{Over, Leads};
+ghost use Rattle.host_engine.specs.ScriptRuns.{run_of};
+ghost use Rattle.host_engine.specs.Stages.{Onward, Refuses};
 ghost use Rattle.host_engine.specs.Words.{Run};
 
-use crate::inputs::{make_inputs, read_sources};
+use crate::inputs::{Inputs, assemble_texts, read_images};
 use crate::limits::SCRIPT_LIMIT;
 use crate::refusal::{Refusal, read_file};
 use crate::script_run::{Outcome, run_script};
@@ -25,15 +28,16 @@ fn place_text(alloc: Global, step: u32, kind: ScriptKind) -> Result<String, Allo
 
 /// Reads a script's file and judges it.
 fn script_in<F: Files>(alloc: Global, name: &str, files: &mut F) -> Result<Script, Refusal>
-    ensures gives { ScriptGives result name.now (F.told files.old) (F.faults files.old) (F.longs files.old) (F.faults files.new) (F.longs files.new) }
-    ensures told { F.told files.new ≡ F.told files.old }
-    ensures faults { F.faults files.old ≤ F.faults files.new }
-    ensures longs { F.longs files.old ≤ F.longs files.new }
+    ensures had { IfOk result (λ script. Leads (F.told files.old) (plan_of (Run name.now)) (script_plan (Ok script))) }
+    ensures forms { IfOk result (λ script. IsScript script) }
+    ensures refused { IfErr result (λ refusal. Refuses (plan_of (Run name.now)) refusal (F.told files.old) (F.faults files.old) (F.longs files.old) (F.faults files.new) (F.longs files.new)) }
+    ensures onward { Onward (F.told files.old) (F.told files.new) (F.faults files.old) (F.faults files.new) (F.longs files.old) (F.longs files.new) }
 {
     let file = match read_file(alloc, name, SCRIPT_LIMIT, files) {
         Ok(file) => file,
         Err(refusal) => return Err(refusal),
     };
+    scripts_keep_forms();
     match read_script(alloc, file.as_slice()) {
         Ok(script) => Ok(script),
         Err(ScriptFault::Memory) => Err(Refusal::Memory),
@@ -41,6 +45,24 @@ fn script_in<F: Files>(alloc: Global, name: &str, files: &mut F) -> Result<Scrip
             Ok(text) => Err(Refusal::Script(text)),
             Err(_) => Err(Refusal::Memory),
         },
+    }
+}
+
+/// Reads the files of a script's images, and assembles their texts.
+fn inputs_of<F: Files>(alloc: Global, script: &Script, files: &mut F) -> Result<Inputs, Refusal>
+    requires { IsScript script.now }
+    ensures had { IfOk result (λ inputs. Leads (F.told files.old) (script_plan (Ok script.now)) (Over (run_answer (run_of script.now inputs)))) }
+    ensures many { IfOk result (λ inputs. length inputs.images ≡ length script.now.image) }
+    ensures refused { IfErr result (λ refusal. Refuses (script_plan (Ok script.now)) refusal (F.told files.old) (F.faults files.old) (F.longs files.old) (F.faults files.new) (F.longs files.new)) }
+    ensures onward { Onward (F.told files.old) (F.told files.new) (F.faults files.old) (F.faults files.new) (F.longs files.old) (F.longs files.new) }
+{
+    let codes = match read_images(alloc, script, files) {
+        Ok(codes) => codes,
+        Err(refusal) => return Err(refusal),
+    };
+    match assemble_texts(alloc, codes) {
+        Ok(images) => Ok(Inputs { images }),
+        Err(why) => Err(Refusal::of_text(why)),
     }
 }
 
@@ -52,7 +74,7 @@ pub fn run<F: Files, O: Sink>(
     files: &mut F,
     out: &mut O,
 ) -> Result<bool, Refusal>
-    ensures { CommandGives (Run name.now) result
+    ensures { CommandGives (plan_of (Run name.now)) result
         (outside (F.told files.old) (F.faults files.old) (F.longs files.old) (O.written out.old) (O.faults out.old))
         (outside (F.told files.new) (F.faults files.new) (F.longs files.new) (O.written out.new) (O.faults out.new)) }
 {
@@ -60,22 +82,11 @@ pub fn run<F: Files, O: Sink>(
         Ok(script) => script,
         Err(refusal) => return Err(refusal),
     };
-    let sources = match read_sources(alloc, script.image.as_slice(), files) {
-        Ok(sources) => sources,
-        Err(refusal) => return Err(refusal),
-    };
-    let inputs = match make_inputs(alloc, sources) {
+    let inputs = match inputs_of(alloc, &script, files) {
         Ok(inputs) => inputs,
         Err(refusal) => return Err(refusal),
     };
-    scripts_keep_forms();
-    match run_script(
-        alloc,
-        script.ram_base,
-        script.step.as_slice(),
-        inputs.as_slice(),
-        out,
-    ) {
+    match run_script(alloc, &script, &inputs, out) {
         Outcome::Done => Ok(false),
         Outcome::Halted => Ok(true),
         Outcome::Write => Err(Refusal::Write),

@@ -1,68 +1,64 @@
 //! The run of a script over the files of its images.
-ghost use Rattle.std.specs.Prelude.{◌≡◌, ◌≤◌, ◌∷◌, [], ℕ, IfOk, OnErr, OnOk, OnSome, Err, Some, length, true, false};
-ghost use Rattle.std.specs.Option.{option_map};
+ghost use Rattle.std.specs.Prelude.{◌≡◌, ◌≤◌, ◌<◌, ◌∷◌, [], ℕ, IfOk, OnErr, OnOk, OnSome, Err, Some, length, map, true, false};
 ghost use Rattle.uh_base.specs.Counts.{Rose};
 ghost use Rattle.uh_base.specs.Told.{grown, GrownByPart};
 ghost use Rattle.record_text.specs.declared.line.Line.TheVariants as lines;
 ghost use Rattle.firmware_core.specs.Views.{LoadGives};
 ghost use Rattle.host_script.specs.Script.{is_ram_base};
+ghost use Rattle.host_script.specs.Forms.{IsScript, IsStep};
 ghost use Rattle.host_engine.specs.Jobs.{line_bytes, bytes_of};
-ghost use Rattle.host_engine.specs.ScriptRuns.{file_of, startable, file_loaded, load_step, last_line, left_behind, is_halt, image_run, start_step, step_of, run_of, at_opening, Made, Ran};
+ghost use Rattle.host_engine.specs.ScriptRuns.{place_of, file_at, startable, file_loaded, load_made, last_line, left_behind, is_halt, image_run, start_made, step_made, run_of, at_opening, Made, Ran};
 
+use crate::inputs::Inputs;
 use crate::job::{JobEnd, Stop, put_line, run_job};
 use crate::limits::CODE_LIMIT;
 use firmware_core::{LoadedImage, Machine};
-use host_script::Step;
+use host_script::{ImageSpec, Script, Step};
 use record_text::{Cause, Line};
 use std::alloc::{AllocError, Global};
-use uh_base::{Bytes, EfiStatus, Sink, Text};
+use uh_base::{EfiStatus, Sink, Text};
 
-/// An image's file, under the image's name.
-#[derive(Drop)]
-pub struct Input {
-    /// The name.
-    pub name: Text,
-    /// The bytes of the file.
-    pub file: Bytes,
-}
-
-/// The machine of a run, and the name under which its image was loaded last.
+/// The machine of a run, and the place among the script's images of the one that was loaded last.
 #[derive(Drop)]
 pub struct Running {
     pub machine: Machine,
-    pub name: Text,
+    pub place: usize,
 }
 
-/// The file of the image with a name.
-#[tactic(auto, unfolding(crate::specs::ScriptRuns::file_of))]
-fn file_of<'a>(inputs: &'a [Input], name: &str) -> Option<&'a [u8]>
-    ensures { option_map (λ file. file.now) result ≡ file_of inputs.now name.now }
+/// The place of an image among those of a script, by its name.
+fn place_of(images: &[ImageSpec], name: &str) -> usize
+    ensures { result ≡ place_of images.now name.now }
 {
-    for input in inputs {
-        if input.name.as_str() == name {
-            return Some(input.file.as_slice());
+    let mut place = 0;
+    for image in images {
+        if image.name.as_str() == name {
+            return place;
         }
+        place += 1;
     }
-    None
+    place
 }
 
-/// Loads a file, if there is one.
+/// The file at a place.
+fn file_at(files: &[Vec<u8>], place: usize) -> &[u8]
+    requires { place < length files.now }
+    ensures { result.now ≡ file_at (map (λ file. file.items) files.now) place }
+{
+    files[place].as_slice()
+}
+
+/// Loads a file.
 fn load_file(
     alloc: Global,
     machine: &mut Machine,
-    file: Option<&[u8]>,
+    file: &[u8],
 ) -> Result<Result<LoadedImage, EfiStatus>, AllocError>
-    ensures { IfOk result (λ loaded. LoadGives loaded machine.old machine.new (file_loaded machine.old (option_map (λ bytes. bytes.now) file.entry))) }
+    ensures { IfOk result (λ loaded. LoadGives loaded machine.old machine.new (file_loaded machine.old file.now)) }
 {
-    match file {
-        None => Ok(Err(EfiStatus::NOT_FOUND)),
-        Some(bytes) => {
-            if bytes.len() > CODE_LIMIT {
-                return Ok(Err(EfiStatus::LOAD_ERROR));
-            }
-            machine.load(alloc, bytes)
-        }
+    if file.len() > CODE_LIMIT {
+        return Ok(Err(EfiStatus::LOAD_ERROR));
     }
+    machine.load(alloc, file)
 }
 
 /// A name once more.
@@ -128,28 +124,28 @@ fn put_start<O: Sink>(
     )
 }
 
-/// Loads an image and puts the line of the step.
-#[tactic(auto, unfolding(crate::specs::ScriptRuns::load_step))]
+/// Loads the image at a place of the script and puts the line of the step.
+#[tactic(auto, unfolding(crate::specs::ScriptRuns::load_made))]
 fn load<O: Sink>(
     alloc: Global,
-    inputs: &[Input],
     name: &Text,
+    place: usize,
+    file: &[u8],
     running: &mut Running,
     out: &mut O,
 ) -> Result<bool, Stop>
-    ensures ok { IfOk result (λ halted. Made (load_step inputs.now name.now running.old) halted running.new (O.written out.old) (O.written out.new)) }
-    ensures part { OnErr result (GrownByPart (O.written out.old) (bytes_of (load_step inputs.now name.now running.old).lines) (O.written out.new)) }
+    ensures ok { IfOk result (λ halted. Made (load_made name.now place file.now running.old) halted running.new (O.written out.old) (O.written out.new)) }
+    ensures part { OnErr result (GrownByPart (O.written out.old) (bytes_of (load_made name.now place file.now running.old).lines) (O.written out.new)) }
     ensures cause { result ≡ Err Stop.Write → Rose (O.faults out.old) (O.faults out.new) }
     ensures never_falls { O.faults out.old ≤ O.faults out.new }
 {
-    let file = file_of(inputs, name.as_str());
     let loaded = match load_file(alloc, &mut running.machine, file) {
         Ok(loaded) => loaded,
         Err(_) => return Err(Stop::Memory),
     };
     let put = match loaded {
         Ok(image) => {
-            running.name = copy_of(alloc, name)?;
+            running.place = place;
             put_load(alloc, name, 0, image.base, image.pages, out)
         }
         Err(status) => put_load(alloc, name, status.0, 0, 0, out),
@@ -160,12 +156,12 @@ fn load<O: Sink>(
     }
 }
 
-/// The image that was loaded last under a name, if it is still there and wasn't started.
-fn startable(running: &Running, name: &str) -> Option<LoadedImage>
-    ensures found { result ≡ startable name.now running.now }
+/// The image at a place of the script, if it was loaded last, is still there and wasn't started.
+fn startable(running: &Running, place: usize) -> Option<LoadedImage>
+    ensures found { result ≡ startable place running.now }
     ensures image { OnSome result (running.now.machine.image ≡ result) }
 {
-    if running.name.as_str() != name {
+    if running.place != place {
         return None;
     }
     match running.machine.image() {
@@ -233,21 +229,22 @@ fn run_image<O: Sink>(
     }
 }
 
-/// Runs an image, if it can begin, and puts the lines of the step.
-#[tactic(auto, unfolding(crate::specs::ScriptRuns::start_step))]
+/// Runs the image at a place of the script, if it can begin, and puts the lines of the step.
+#[tactic(auto, unfolding(crate::specs::ScriptRuns::start_made))]
 fn start<O: Sink>(
     alloc: Global,
     name: &Text,
+    place: usize,
     bound: u64,
     running: &mut Running,
     out: &mut O,
 ) -> Result<bool, Stop>
-    ensures ok { IfOk result (λ halted. Made (start_step name.now bound running.old) halted running.new (O.written out.old) (O.written out.new)) }
-    ensures part { OnErr result (GrownByPart (O.written out.old) (bytes_of (start_step name.now bound running.old).lines) (O.written out.new)) }
+    ensures ok { IfOk result (λ halted. Made (start_made name.now place bound running.old) halted running.new (O.written out.old) (O.written out.new)) }
+    ensures part { OnErr result (GrownByPart (O.written out.old) (bytes_of (start_made name.now place bound running.old).lines) (O.written out.new)) }
     ensures cause { result ≡ Err Stop.Write → Rose (O.faults out.old) (O.faults out.new) }
     ensures never_falls { O.faults out.old ≤ O.faults out.new }
 {
-    match startable(running, name.as_str()) {
+    match startable(running, place) {
         Some(image) => run_image(alloc, name, bound, image, running, out),
         None => match put_start(alloc, name, EfiStatus::INVALID_PARAMETER.0, 0, out) {
             Ok(()) => Ok(false),
@@ -259,19 +256,29 @@ fn start<O: Sink>(
 /// Makes a step and puts its lines; true where the run is halted.
 fn make_step<O: Sink>(
     alloc: Global,
-    inputs: &[Input],
+    script: &Script,
+    inputs: &Inputs,
     step: &Step,
     running: &mut Running,
     out: &mut O,
 ) -> Result<bool, Stop>
-    ensures ok { IfOk result (λ halted. Made (step_of inputs.now step.now running.old) halted running.new (O.written out.old) (O.written out.new)) }
-    ensures part { OnErr result (GrownByPart (O.written out.old) (bytes_of (step_of inputs.now step.now running.old).lines) (O.written out.new)) }
+    requires known { IsStep script.now.image step.now }
+    requires many { length inputs.now.images ≡ length script.now.image }
+    ensures ok { IfOk result (λ halted. Made (step_made script.now inputs.now step.now running.old) halted running.new (O.written out.old) (O.written out.new)) }
+    ensures part { OnErr result (GrownByPart (O.written out.old) (bytes_of (step_made script.now inputs.now step.now running.old).lines) (O.written out.new)) }
     ensures cause { result ≡ Err Stop.Write → Rose (O.faults out.old) (O.faults out.new) }
     ensures never_falls { O.faults out.old ≤ O.faults out.new }
 {
     match step {
-        Step::Load { image } => load(alloc, inputs, image, running, out),
-        Step::Start { image, bound } => start(alloc, image, *bound, running, out),
+        Step::Load { image } => {
+            let place = place_of(script.image.as_slice(), image.as_str());
+            let file = file_at(inputs.images.as_slice(), place);
+            load(alloc, image, place, file, running, out)
+        }
+        Step::Start { image, bound } => {
+            let place = place_of(script.image.as_slice(), image.as_str());
+            start(alloc, image, place, *bound, running, out)
+        }
     }
 }
 
@@ -282,30 +289,31 @@ fn open(alloc: Global, ram_base: u64) -> Result<Running, AllocError>
 {
     Ok(Running {
         machine: Machine::new(alloc, ram_base, 4096)?,
-        name: Text::new(alloc, "")?,
+        place: 0,
     })
 }
 
 /// Makes the steps in order and puts their lines; true where the run is halted.
 fn run_steps<O: Sink>(
     alloc: Global,
-    ram_base: u64,
-    inputs: &[Input],
-    steps: &[Step],
+    script: &Script,
+    inputs: &Inputs,
     out: &mut O,
 ) -> Result<bool, Stop>
-    requires { is_ram_base ram_base ≡ true }
-    ensures ok { IfOk result (λ halted. Ran (run_of ram_base inputs.now steps.now) halted (O.written out.old) (O.written out.new)) }
-    ensures part { OnErr result (GrownByPart (O.written out.old) (bytes_of (run_of ram_base inputs.now steps.now).lines) (O.written out.new)) }
+    requires forms { IsScript script.now }
+    requires many { length inputs.now.images ≡ length script.now.image }
+    ensures ok { IfOk result (λ halted. Ran (run_of script.now inputs.now) halted (O.written out.old) (O.written out.new)) }
+    ensures part { OnErr result (GrownByPart (O.written out.old) (bytes_of (run_of script.now inputs.now).lines) (O.written out.new)) }
     ensures cause { result ≡ Err Stop.Write → Rose (O.faults out.old) (O.faults out.new) }
     ensures never_falls { O.faults out.old ≤ O.faults out.new }
 {
-    let mut running = match open(alloc, ram_base) {
+    let mut running = match open(alloc, script.ram_base) {
         Ok(running) => running,
         Err(_) => return Err(Stop::Memory),
     };
+    let steps = script.step.as_slice();
     for step in steps {
-        match make_step(alloc, inputs, step, &mut running, out) {
+        match make_step(alloc, script, inputs, step, &mut running, out) {
             Ok(false) => {}
             Ok(true) => return Ok(true),
             Err(stop) => return Err(stop),
@@ -330,22 +338,17 @@ pub enum Outcome {
     Memory,
 }
 
-/// Runs the steps of a script over the files of its images, from the machine at opening over 4,096 pages of
+/// Runs the steps of a script over the bytes of its images, from the machine at opening over 4,096 pages of
 /// RAM, and puts each line as it comes, in one put each.
-pub fn run_script<O: Sink>(
-    alloc: Global,
-    ram_base: u64,
-    steps: &[Step],
-    inputs: &[Input],
-    out: &mut O,
-) -> Outcome
-    requires { is_ram_base ram_base ≡ true }
-    ensures done { result ≡ Outcome.Done → Ran (run_of ram_base inputs.now steps.now) false (O.written out.old) (O.written out.new) }
-    ensures halted { result ≡ Outcome.Halted → Ran (run_of ram_base inputs.now steps.now) true (O.written out.old) (O.written out.new) }
-    ensures part { GrownByPart (O.written out.old) (bytes_of (run_of ram_base inputs.now steps.now).lines) (O.written out.new) }
+pub fn run_script<O: Sink>(alloc: Global, script: &Script, inputs: &Inputs, out: &mut O) -> Outcome
+    requires forms { IsScript script.now }
+    requires many { length inputs.now.images ≡ length script.now.image }
+    ensures done { result ≡ Outcome.Done → Ran (run_of script.now inputs.now) false (O.written out.old) (O.written out.new) }
+    ensures halted { result ≡ Outcome.Halted → Ran (run_of script.now inputs.now) true (O.written out.old) (O.written out.new) }
+    ensures part { GrownByPart (O.written out.old) (bytes_of (run_of script.now inputs.now).lines) (O.written out.new) }
     ensures write { result ≡ Outcome.Write → Rose (O.faults out.old) (O.faults out.new) }
 {
-    match run_steps(alloc, ram_base, inputs, steps, out) {
+    match run_steps(alloc, script, inputs, out) {
         Ok(true) => Outcome::Halted,
         Ok(false) => Outcome::Done,
         Err(Stop::Write) => Outcome::Write,

@@ -9,11 +9,13 @@ use Rattle.toml.specs.Parse.{parse_document}
 use Rattle.uh_base.specs.Names.{is_name}
 use Rattle.host_script.specs.Faults.{◌>>=◌, Place, placed}
 use Rattle.host_script.specs.Fields.{only_keys, text_field, number_field, integer_in, integer_field, tables_field, items_len, counted, needed}
-use Rattle.host_script.specs.Script.{has_image, table_of, Top, not_empty, steps_field, is_ram_base, base_or, ram_base_of, top_of, new_name, origin_of, image_of, image_at, images_of, known_name, step_image, or_million, bound_of, load_of, start_of, step_by, step_of, step_at, steps_of, Plain, with_steps, script_of, of_document, script_in}
-use Rattle.host_script.specs.Forms.{AreImages, IsStep, AreSteps, IsScript, ScriptsKeepForms}
+use Rattle.host_script.specs.Script.{has_image, table_of, Top, not_empty, steps_field, is_ram_base, base_or, ram_base_of, top_of, new_name, text_limit, short_text, one_of, origin_of, image_in, image_at, images_of, known_name, step_image, or_million, bound_of, load_in, start_in, step_by, step_in, step_at, steps_of, with_steps, script_of, of_document, script_in}
+use Rattle.host_script.specs.Plain.{Plain}
+use Rattle.host_script.specs.Forms.{IsOrigin, AreImages, IsStep, AreSteps, IsScript, ScriptsKeepForms}
 use Rattle.host_script.specs.declared.fault.ScriptKind.{ScriptKind}
 use Rattle.host_script.specs.declared.fault.ScriptKind.TheVariants as kinds
 use Rattle.host_script.specs.declared.script.Origin.{Origin}
+use Rattle.host_script.specs.declared.script.Origin.TheVariants.{File, Text}
 use Rattle.host_script.specs.declared.script.ImageSpec.{ImageSpec}
 use Rattle.host_script.specs.declared.script.Step.{Step}
 use Rattle.host_script.specs.declared.script.Step.TheVariants.{Load, Start}
@@ -88,6 +90,28 @@ some_kept items kept h =
 record ReadsImage (before : List ImageSpec) (image : ImageSpec) : Type 0 where
   named : is_name image.name ≡ true
   new : has_image before image.name ≡ false
+  short : IsOrigin image.origin
+
+text_kept : (text : List ℕ) (origin : Origin) → short_text text ≡ Ok origin → IsOrigin origin
+text_kept text origin h =
+    let p = checked (nat_le (length text) text_limit) (Text text) origin kinds.Value h in
+    let test : nat_le (length text) text_limit ≡ true = p.0 in
+    let short : length text ≤ text_limit = grind (arith, nat_tests, test) in
+    let same : Text text ≡ origin = p.1 in
+    subst IsOrigin same short
+
+one_kept : (file text : Option (List ℕ)) (origin : Origin) → one_of file text ≡ Ok origin → IsOrigin origin
+one_kept (Some file) None origin h = let same : File file ≡ origin = cc in subst IsOrigin same tt
+one_kept None (Some text) origin h = text_kept text origin h
+one_kept None None origin h = cc
+one_kept (Some file) (Some text) origin h = cc
+
+origin_kept : (table : Members) (origin : Origin) → origin_of table ≡ Ok origin → IsOrigin origin
+unfolding origin_of
+origin_kept table origin h =
+    let file = went (text_field (codes "file") table) (λ file. text_field (codes "text") table >>= one_of file) origin h in
+    let text = went (text_field (codes "text") table) (one_of file.x) origin file.then_ in
+    one_kept file.x text.x origin text.then_
 
 abbrev with_origin : List ℕ → Members → Origin → Result ImageSpec ScriptKind
 with_origin name table origin = Ok (record { name = name; origin = origin })
@@ -95,11 +119,11 @@ with_origin name table origin = Ok (record { name = name; origin = origin })
 abbrev with_name : Members → List ℕ → Result ImageSpec ScriptKind
 with_name table name = origin_of table >>= with_origin name table
 
-name_kept : (table : Members) (name : List ℕ) (origin : Origin) (image : ImageSpec) → with_origin name table origin ≡ Ok image → name ≡ image.name
-name_kept table name origin image h = let made : ImageSpec = record { name = name; origin = origin } in let e : made ≡ image = cc in ap (λ (i : ImageSpec). i.name) e
+made_kept : (table : Members) (name : List ℕ) (origin : Origin) (image : ImageSpec) → with_origin name table origin ≡ Ok image → (name ≡ image.name) × (origin ≡ image.origin)
+made_kept table name origin image h = let made : ImageSpec = record { name = name; origin = origin } in let e : made ≡ image = cc in (ap (λ (i : ImageSpec). i.name) e, ap (λ (i : ImageSpec). i.origin) e)
 
-image_read : (before : List ImageSpec) (table : Members) (image : ImageSpec) → image_of before table ≡ Ok image → ReadsImage before image
-unfolding image_of
+image_read : (before : List ImageSpec) (table : Members) (image : ImageSpec) → image_in before table ≡ Ok image → ReadsImage before image
+unfolding image_in
 image_read before table image h =
     let named : Result (List ℕ) ScriptKind = needed (text_field (codes "name") table) >>= new_name before in
     let keys = went (only_keys (codes "name" ∷ codes "file" ∷ codes "text" ∷ []) table) (λ _. named >>= with_name table) image h in
@@ -107,12 +131,13 @@ image_read before table image h =
     let origin = went (origin_of table) (with_origin name.x table) image name.then_ in
     let text = went (needed (text_field (codes "name") table)) (new_name before) name.x name.first in
     let forms = new_names before text.x name.x text.then_ in
-    let same : name.x ≡ image.name = name_kept table name.x origin.x image origin.then_ in
-    record { named = rw (← same) forms.0; new = rw (← same) forms.1 }
+    let kept = made_kept table name.x origin.x image origin.then_ in
+    let same : name.x ≡ image.name = kept.0 in
+    record { named = rw (← same) forms.0; new = rw (← same) forms.1; short = subst IsOrigin kept.1 (origin_kept table origin.x origin.first) }
 
 image_read_at : (before : List ImageSpec) (content : Data) (image : ImageSpec) → image_at before content ≡ Ok image → ReadsImage before image
 unfolding image_at
-image_read_at before content image h = let p = went (table_of (as_table content)) (image_of before) image h in image_read before p.x image p.then_
+image_read_at before content image h = let p = went (table_of (as_table content)) (image_in before) image h in image_read before p.x image p.then_
 
 -- the images that were read, behind those before them
 record ReadImages (before images : List ImageSpec) (count : ℕ) : Type 0 where
@@ -131,7 +156,7 @@ images_read before (item content items) images h =
     record {
       added = p.x ∷ rest.added;
       same = rest.same ∙ append_assoc before (p.x ∷ []) rest.added;
-      keep = (first.named, first.new, rest.keep);
+      keep = (first.named, first.new, first.short, rest.keep);
       long = omega (arith, rest.long);
     }
 
@@ -171,8 +196,8 @@ bound_read table bound h =
 abbrev with_image : List ℕ → Result Step ScriptKind
 with_image image = Ok (Load image)
 
-load_read : (images : List ImageSpec) (table : Members) (step : Step) → load_of images table ≡ Ok step → IsStep images step
-unfolding load_of
+load_read : (images : List ImageSpec) (table : Members) (step : Step) → load_in images table ≡ Ok step → IsStep images step
+unfolding load_in
 load_read images table step h =
     let keys = went (only_keys (codes "do" ∷ codes "image" ∷ []) table) (λ _. step_image images table >>= with_image) step h in
     let image = went (step_image images table) with_image step keys.then_ in
@@ -182,8 +207,8 @@ load_read images table step h =
 abbrev with_bound : List ℕ → ℕ → Result Step ScriptKind
 with_bound image bound = Ok (Start image bound)
 
-start_read : (images : List ImageSpec) (table : Members) (step : Step) → start_of images table ≡ Ok step → IsStep images step
-unfolding start_of
+start_read : (images : List ImageSpec) (table : Members) (step : Step) → start_in images table ≡ Ok step → IsStep images step
+unfolding start_in
 start_read images table step h =
     let keys = went (only_keys (codes "do" ∷ codes "image" ∷ codes "bound" ∷ []) table) (λ _. step_image images table >>= λ image. bound_of table >>= with_bound image) step h in
     let image = went (step_image images table) (λ image. bound_of table >>= with_bound image) step keys.then_ in
@@ -196,15 +221,15 @@ by_read : (word : List ℕ) (images : List ImageSpec) (table : Members) (step : 
 unfolding step_by
 by_read word images table step h = by (bytes_eq word (codes "load")) (bytes_eq word (codes "start")) h
   where
-    by : (loads starts : Bool) → (if loads then load_of images table else (if starts then start_of images table else Err kinds.Value)) ≡ Ok step → IsStep images step
+    by : (loads starts : Bool) → (if loads then load_in images table else (if starts then start_in images table else Err kinds.Value)) ≡ Ok step → IsStep images step
     by true starts h = load_read images table step h
     by false true h = start_read images table step h
     by false false h = cc
 
 step_read_at : (images : List ImageSpec) (content : Data) (step : Step) → step_at images content ≡ Ok step → IsStep images step
-unfolding step_at step_of
+unfolding step_at step_in
 step_read_at images content step h =
-    let table = went (table_of (as_table content)) (step_of images) step h in
+    let table = went (table_of (as_table content)) (step_in images) step h in
     let word = went (needed (text_field (codes "do") table.x)) (λ word. step_by word images table.x) step table.then_ in
     by_read word.x images table.x step word.then_
 

@@ -2,14 +2,22 @@
 use Rattle.std.specs.Prelude.{◌≡◌, ◌≤◌, ◌++◌, ℕ, List, [], ◌∷◌, length, true, false, Ok}
 use Rattle.uh_base.specs.Names.{is_name}
 use Rattle.host_script.specs.declared.script.ImageSpec.{ImageSpec}
+use Rattle.host_script.specs.declared.script.Origin.{Origin}
+use Rattle.host_script.specs.declared.script.Origin.TheVariants.{File, Text}
 use Rattle.host_script.specs.declared.script.Step.{Step}
 use Rattle.host_script.specs.declared.script.Step.TheVariants.{Load, Start}
-use Rattle.host_script.specs.Script.{Plain, has_image, is_ram_base, script_in}
+use Rattle.host_script.specs.Plain.{Plain}
+use Rattle.host_script.specs.Script.{has_image, is_ram_base, text_limit, script_in}
 
--- Each image has a name, which none before it has.
+-- An assembly text has at most 4 MiB.
+abbrev pub IsOrigin : Origin → Type 0
+IsOrigin (File name) = Unit {0}
+IsOrigin (Text text) = length text ≤ text_limit
+
+-- Each image has a name, which none before it has, and a file or a text.
 abbrev pub AreImages : List ImageSpec → List ImageSpec → Type 0
 AreImages before [] = Unit {0}
-AreImages before (image ∷ images) = (is_name image.name ≡ true) × (has_image before image.name ≡ false) × AreImages (before ++ image ∷ []) images
+AreImages before (image ∷ images) = (is_name image.name ≡ true) × (has_image before image.name ≡ false) × IsOrigin image.origin × AreImages (before ++ image ∷ []) images
 
 -- A step names an image, and may run 1 to 50,000,000 steps.
 abbrev pub IsStep : List ImageSpec → Step → Type 0

@@ -6,6 +6,7 @@ use Rattle.toml.specs.Data.{Data, Items, no_items, item, Members, as_table}
 use Rattle.toml.specs.Parse.{parse_document}
 use Rattle.uh_base.specs.Names.{is_name}
 use Rattle.host_script.specs.Faults.{◌>>=◌, Place, placed}
+use Rattle.host_script.specs.Plain.{Plain}
 use Rattle.host_script.specs.Fields.{only_keys, text_field, number_field, integer_field, tables_field, items_len, counted, needed}
 use Rattle.host_script.specs.declared.fault.ScriptKind.{ScriptKind}
 use Rattle.host_script.specs.declared.fault.ScriptKind.TheVariants as kinds
@@ -14,7 +15,6 @@ use Rattle.host_script.specs.declared.script.Origin.TheVariants.{File, Text}
 use Rattle.host_script.specs.declared.script.ImageSpec.{ImageSpec}
 use Rattle.host_script.specs.declared.script.Step.{Step}
 use Rattle.host_script.specs.declared.script.Step.TheVariants.{Load, Start}
-use Rattle.host_script.specs.declared.script.Script.{Script}
 
 -- an image has the name
 abbrev pub has_image : List ImageSpec → List ℕ → Bool
@@ -62,10 +62,17 @@ top_of top = do
 abbrev pub new_name : List ImageSpec → List ℕ → Result (List ℕ) ScriptKind
 new_name before name = if is_name name then (if has_image before name then Err kinds.Name else Ok name) else Err kinds.Value
 
+-- the most bytes that an assembly text has
+abbrev pub text_limit : ℕ
+text_limit = 0x400000
+
+abbrev pub short_text : List ℕ → Result Origin ScriptKind
+short_text text = if nat_le (length text) text_limit then Ok (Text text) else Err kinds.Value
+
 -- a file or a text, one of the two
 abbrev pub one_of : Option (List ℕ) → Option (List ℕ) → Result Origin ScriptKind
 one_of (Some file) None = Ok (File file)
-one_of None (Some text) = Ok (Text text)
+one_of None (Some text) = short_text text
 one_of None None = Err kinds.Missing
 one_of (Some file) (Some text) = Err kinds.Shape
 
@@ -75,15 +82,15 @@ origin_of image = do
   text ← text_field (codes "text") image
   one_of file text
 
-unfoldable pub image_of : List ImageSpec → Members → Result ImageSpec ScriptKind
-image_of before image = do
+unfoldable pub image_in : List ImageSpec → Members → Result ImageSpec ScriptKind
+image_in before image = do
   _ ← only_keys (codes "name" ∷ codes "file" ∷ codes "text" ∷ []) image
   name ← needed (text_field (codes "name") image) >>= new_name before
   origin ← origin_of image
   Ok (record { name = name; origin = origin })
 
 unfoldable pub image_at : List ImageSpec → Data → Result ImageSpec ScriptKind
-image_at before content = table_of (as_table content) >>= image_of before
+image_at before content = table_of (as_table content) >>= image_in before
 
 unfoldable pub images_of : List ImageSpec → Items → Result (List ImageSpec) ScriptKind
 images_of before no_items = Ok before
@@ -105,14 +112,14 @@ or_million bound = Ok (unwrap_or bound 1000000)
 unfoldable pub bound_of : Members → Result ℕ ScriptKind
 bound_of step = integer_field (codes "bound") 1 50000000 step >>= or_million
 
-unfoldable pub load_of : List ImageSpec → Members → Result Step ScriptKind
-load_of images step = do
+unfoldable pub load_in : List ImageSpec → Members → Result Step ScriptKind
+load_in images step = do
   _ ← only_keys (codes "do" ∷ codes "image" ∷ []) step
   image ← step_image images step
   Ok (Load image)
 
-unfoldable pub start_of : List ImageSpec → Members → Result Step ScriptKind
-start_of images step = do
+unfoldable pub start_in : List ImageSpec → Members → Result Step ScriptKind
+start_in images step = do
   _ ← only_keys (codes "do" ∷ codes "image" ∷ codes "bound" ∷ []) step
   image ← step_image images step
   bound ← bound_of step
@@ -120,14 +127,14 @@ start_of images step = do
 
 unfoldable pub step_by : List ℕ → List ImageSpec → Members → Result Step ScriptKind
 step_by word images step =
-    if bytes_eq word (codes "load") then load_of images step
-    else (if bytes_eq word (codes "start") then start_of images step else Err kinds.Value)
+    if bytes_eq word (codes "load") then load_in images step
+    else (if bytes_eq word (codes "start") then start_in images step else Err kinds.Value)
 
-unfoldable pub step_of : List ImageSpec → Members → Result Step ScriptKind
-step_of images step = needed (text_field (codes "do") step) >>= λ word. step_by word images step
+unfoldable pub step_in : List ImageSpec → Members → Result Step ScriptKind
+step_in images step = needed (text_field (codes "do") step) >>= λ word. step_by word images step
 
 unfoldable pub step_at : List ImageSpec → Data → Result Step ScriptKind
-step_at images content = table_of (as_table content) >>= step_of images
+step_at images content = table_of (as_table content) >>= step_in images
 
 -- the steps behind those before, numbered from 1
 unfoldable pub steps_of : List ImageSpec → List Step → Items → Result (List Step) Place
@@ -135,15 +142,6 @@ steps_of images before no_items = Ok before
 steps_of images before (item content items) = placed (length before + 1) (step_at images content) (λ step. steps_of images (before ++ step ∷ []) items)
 
 -- ---- the whole
-
--- a script, without where its lists lie in memory
-pub record Plain : Type 0 where
-  pub ram_base : ℕ
-  pub image : List ImageSpec
-  pub step : List Step
-
-abbrev pub plain : Script → Plain
-plain script = record { ram_base = script.ram_base; image = script.image.items; step = script.step.items }
 
 abbrev pub with_steps : ℕ → List ImageSpec → Result (List Step) Place → Result Plain Place
 with_steps ram_base images (Ok steps) = Ok (record { ram_base = ram_base; image = images; step = steps })

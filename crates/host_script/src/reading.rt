@@ -3,7 +3,7 @@ ghost use Rattle.std.specs.Prelude.{◌≡◌, ◌≤◌, length, IfOk};
 ghost use Rattle.toml.specs.View.{table_view, items_view};
 ghost use Rattle.host_script.specs.Faults.{Reads};
 ghost use Rattle.host_script.specs.Fields.{seen_items};
-ghost use Rattle.host_script.specs.Script.{not_empty, steps_field, is_ram_base, ram_base_of, top_of, plain, script_of, script_in};
+ghost use Rattle.host_script.specs.Script.{not_empty, steps_field, is_ram_base, ram_base_of, top_of, script_of, script_in};
 ghost use Rattle.host_script.specs.Forms.{ScriptsKeepForms};
 ghost use Rattle.host_script.specs.Seen.{top_seen};
 
@@ -85,7 +85,7 @@ fn top_of(top: &Table) -> Result<Top<'_>, ScriptKind>
 
 #[tactic(auto, unfolding(crate::specs::Script::script_of))]
 fn script_of(alloc: Global, document: &Table) -> Result<Script, ScriptFault>
-    ensures { Reads plain result (script_of (table_view document.now)) }
+    ensures { Reads (λ script. script) result (script_of (table_view document.now)) }
 {
     let top = match top_of(document) {
         Ok(top) => top,
@@ -111,7 +111,7 @@ fn script_of(alloc: Global, document: &Table) -> Result<Script, ScriptFault>
 /// in a step `do` comes before all other keys.
 #[tactic(auto, unfolding(crate::specs::Script::script_in))]
 pub fn read_script(alloc: Global, bytes: &[u8]) -> Result<Script, ScriptFault>
-    ensures { Reads plain result (script_in bytes.now) }
+    ensures { Reads (λ script. script) result (script_in bytes.now) }
 {
     match toml::table_from_slice(alloc, bytes) {
         Ok(table) => script_of(alloc, &table),

@@ -1,4 +1,5 @@
 //! What a script holds.
+use std::marker::Model;
 use uh_base::Text;
 
 /// Where the bytes of an image come from.
@@ -6,7 +7,7 @@ use uh_base::Text;
 pub enum Origin {
     /// A PE file of this name.
     File(Text),
-    /// What this assembly text is assembled to.
+    /// What this assembly text is assembled to. It has at most 4 MiB.
     Text(Text),
 }
 
@@ -34,4 +35,12 @@ pub struct Script {
     pub ram_base: u64,
     pub image: Vec<ImageSpec>,
     pub step: Vec<Step>,
+}
+
+impl Model for Script {
+    ghost use Rattle.host_script.specs.Plain.{Plain};
+
+    ghost Value = { Plain };
+
+    ghost view = { λ s. record { ram_base = s.ram_base; image = s.image.items; step = s.step.items } };
 }

@@ -3,7 +3,7 @@ ghost use Rattle.std.specs.Prelude.{◌≡◌, ◌≤◌, ◌<◌, ◌^◌, [], 
 ghost use Rattle.toml.specs.View.{view, table_view, items_view};
 ghost use Rattle.host_script.specs.Faults.{Gives, Reads, fault_at};
 ghost use Rattle.host_script.specs.Fields.{seen_one};
-ghost use Rattle.host_script.specs.Script.{known_name, step_image, bound_of, load_of, start_of, step_by, step_of, step_at, steps_of};
+ghost use Rattle.host_script.specs.Script.{known_name, step_image, bound_of, load_in, start_in, step_by, step_in, step_at, steps_of};
 
 use crate::fault::{Fault, ScriptFault, ScriptKind};
 use crate::fields;
@@ -45,9 +45,9 @@ fn bound_of(step: &Table) -> Result<u64, ScriptKind>
     }
 }
 
-#[tactic(auto, unfolding(crate::specs::Script::load_of))]
-fn load_of(alloc: Global, images: &[ImageSpec], step: &Table) -> Result<Step, Fault>
-    ensures { Gives (λ step. step) result (load_of images.now (table_view step.now)) }
+#[tactic(auto, unfolding(crate::specs::Script::load_in))]
+fn load_in(alloc: Global, images: &[ImageSpec], step: &Table) -> Result<Step, Fault>
+    ensures { Gives (λ step. step) result (load_in images.now (table_view step.now)) }
 {
     fields::only_keys(step, &["do", "image"])?;
     let image = step_image(images, step)?;
@@ -56,9 +56,9 @@ fn load_of(alloc: Global, images: &[ImageSpec], step: &Table) -> Result<Step, Fa
     })
 }
 
-#[tactic(auto, unfolding(crate::specs::Script::start_of))]
-fn start_of(alloc: Global, images: &[ImageSpec], step: &Table) -> Result<Step, Fault>
-    ensures { Gives (λ step. step) result (start_of images.now (table_view step.now)) }
+#[tactic(auto, unfolding(crate::specs::Script::start_in))]
+fn start_in(alloc: Global, images: &[ImageSpec], step: &Table) -> Result<Step, Fault>
+    ensures { Gives (λ step. step) result (start_in images.now (table_view step.now)) }
 {
     fields::only_keys(step, &["do", "image", "bound"])?;
     let image = step_image(images, step)?;
@@ -75,17 +75,17 @@ fn step_by(alloc: Global, word: &str, images: &[ImageSpec], step: &Table) -> Res
     ensures { Gives (λ step. step) result (step_by word.now images.now (table_view step.now)) }
 {
     if word == "load" {
-        return load_of(alloc, images, step);
+        return load_in(alloc, images, step);
     }
     if word == "start" {
-        return start_of(alloc, images, step);
+        return start_in(alloc, images, step);
     }
     Err(Fault::Kind(ScriptKind::Value))
 }
 
-#[tactic(auto, unfolding(crate::specs::Script::step_of))]
-fn step_of(alloc: Global, images: &[ImageSpec], step: &Table) -> Result<Step, Fault>
-    ensures { Gives (λ step. step) result (step_of images.now (table_view step.now)) }
+#[tactic(auto, unfolding(crate::specs::Script::step_in))]
+fn step_in(alloc: Global, images: &[ImageSpec], step: &Table) -> Result<Step, Fault>
+    ensures { Gives (λ step. step) result (step_in images.now (table_view step.now)) }
 {
     let word = fields::needed_text(step, "do")?;
     step_by(alloc, word, images, step)
@@ -96,7 +96,7 @@ fn step_at(alloc: Global, images: &[ImageSpec], value: &Value) -> Result<Step, F
     ensures { Gives (λ step. step) result (step_at images.now (view value.now)) }
 {
     match value.as_table() {
-        Some(step) => step_of(alloc, images, step),
+        Some(step) => step_in(alloc, images, step),
         None => Err(Fault::Kind(ScriptKind::Shape)),
     }
 }

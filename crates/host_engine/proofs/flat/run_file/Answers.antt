@@ -2,7 +2,7 @@ use Rattle.std.proofs.Common.{◌∙◌, ap, ◌++◌, ◌∷◌, []}
 use Rattle.host_engine.specs.FlatMemories.{flat_bytes}
 use Rattle.host_engine.specs.FlatRuns.{End}
 use Rattle.host_engine.specs.Lines.{line_of, flat_text}
-use Rattle.host_engine.specs.Prints.{halts}
+use Rattle.host_engine.specs.Commands.{halts}
 use Rattle.host_engine.proofs.RunLemmas.{flat_ended}
 use Rattle.host_engine.proofs.flat.run_file.Goals as goal
 

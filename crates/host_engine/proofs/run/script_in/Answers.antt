@@ -1,11 +1,17 @@
-use Rattle.std.proofs.Common.{sym}
+use Rattle.std.proofs.Common.{◌≡◌, sym, ap, subst, refl, Ok, Err}
+use Rattle.host_script.specs.Script.{script_in}
+use Rattle.host_engine.specs.Commands.{script_file, script_plan}
+use Rattle.host_engine.proofs.PlanLemmas.{here, onward}
+use Rattle.host_engine.proofs.RunPlanLemmas.{script_had, script_refused}
 use Rattle.host_engine.proofs.run.script_in.Goals as goal
 
-pub returns-in-Ok-read_script-clause-gives : goal.returns-in-Ok-read_script-clause-gives
-returns-in-Ok-read_script-clause-gives g c =
-    (record { bytes = c.in-Ok.file.items; named = c.in-Ok.ensures.gives.0; within = c.in-Ok.ensures.gives.1 }, rw (sym c.as_slice.ensures.value) c.in-Ok-read_script.ensures)
+pub returns-in-Ok-read_script-clause-had : goal.returns-in-Ok-read_script-clause-had
+returns-in-Ok-read_script-clause-had g c = script_had _ _ c.in-Ok.file.items _ c.in-Ok.ensures.had (rw (sym c.as_slice.ensures.value) c.in-Ok-read_script.ensures)
 
-pub returns-in-Ok-place_text-clause-gives : goal.returns-in-Ok-place_text-clause-gives
-returns-in-Ok-place_text-clause-gives g c =
+pub returns-in-Ok-read_script-clause-forms : goal.returns-in-Ok-read_script-clause-forms
+returns-in-Ok-read_script-clause-forms g c = c.scripts_keep_forms.ensures _ _ c.in-Ok-read_script.ensures
+
+pub returns-in-Ok-place_text-clause-refused : goal.returns-in-Ok-place_text-clause-refused
+returns-in-Ok-place_text-clause-refused g c =
     let said = rw c.in-Err-At.field-0-is at c.in-Err-At.ensures in
-    (record { bytes = c.in-Ok.file.items; named = c.in-Ok.ensures.gives.0; within = c.in-Ok.ensures.gives.1 }, (c.in-Err-At.step, c.in-Err-At.kind), rw (sym c.as_slice.ensures.value) said, c.in-Ok-place_text.ensures)
+    λ told' out p. script_refused _ _ c.in-Ok.file.items (c.in-Err-At.step, c.in-Err-At.kind) c.in-Ok-place_text.text c.in-Ok.ensures.had (rw (sym c.as_slice.ensures.value) said) c.in-Ok-place_text.ensures told' 0 0 0 0 out p

@@ -1,26 +1,36 @@
-use Rattle.std.proofs.Common.{arith}
+use Rattle.std.proofs.Common.{◌≡◌, ◌∙◌, ap, sym, subst, arith}
+use Rattle.host_script.specs.Forms.{AreSteps}
+use Rattle.host_script.specs.Plain.{Plain}
 use Rattle.host_engine.specs.ScriptRuns.{run_of}
-use Rattle.host_engine.proofs.StepLemmas.{begins, goes_on, halts_here, stops_here, ends, stops_at_end}
+use Rattle.host_engine.proofs.PlaceLemmas.{step_at}
+use Rattle.host_engine.proofs.StepLemmas.{opens, goes_on, halts_here, stops_here, ends, stops_at_end}
 use Rattle.host_engine.proofs.script_run.run_steps.Goals as goal
 
 pub loop-step-init : goal.loop-step-init
-unfolding run_of
-loop-step-init g c = record { so_far = rw c.in-Ok.ensures (begins (run_of c.args.ram_base c.args.inputs.now c.args.steps.now) (g.O.Sink.written c.args.out.now)); never = omega arith }
+loop-step-init g c = record {
+  so_far = rw c.in-Ok.ensures (opens c.args.script.now c.args.inputs.now c.script.inside.ram_base c.as_slice-steps.result.now (g.O.Sink.written c.args.out.now) (ap (λ (s : Plain). s.ram_base) c.script.view_is) (c.as_slice-steps.ensures.value ∙ ap (λ (s : Plain). s.step) c.script.view_is));
+  never = omega arith;
+}
 
 pub loop-step-preserved : goal.loop-step-preserved
 loop-step-preserved g c = record {
-  so_far = goes_on c.args.inputs.now (run_of c.args.ram_base c.args.inputs.now c.args.steps.now) c.args.steps.now c.loop-step.step-index c.step-item.result c.loop-step.running _ _ (g.O.Sink.written c.make_step.new.out) c.loop-step-test.true c.step-item.is c.loop-step.invariant.so_far c.make_step.new.running (rw c.in-Ok-false.field-0-test at c.in-Ok-false.ensures.ok);
+  so_far = goes_on c.args.script.now c.args.inputs.now (run_of c.args.script.now c.args.inputs.now) c.as_slice-steps.result.now c.loop-step.step-index c.step-item.result c.loop-step.running _ _ (g.O.Sink.written c.make_step.new.out) c.loop-step-test.true c.step-item.is c.loop-step.invariant.so_far c.make_step.new.running (rw c.in-Ok-false.field-0-test at c.in-Ok-false.ensures.ok);
   never = omega (arith, c.in-Ok-false.ensures.never_falls);
 }
 
 pub returns-in-Ok-true-clause-ok : goal.returns-in-Ok-true-clause-ok
-returns-in-Ok-true-clause-ok g c = halts_here c.args.inputs.now (run_of c.args.ram_base c.args.inputs.now c.args.steps.now) c.args.steps.now c.loop-step.step-index c.step-item.result c.loop-step.running _ _ (g.O.Sink.written c.make_step.new.out) c.loop-step-test.true c.step-item.is c.loop-step.invariant.so_far c.make_step.new.running (rw c.in-Ok-true.field-0-test at c.in-Ok-true.ensures.ok)
+returns-in-Ok-true-clause-ok g c = halts_here c.args.script.now c.args.inputs.now (run_of c.args.script.now c.args.inputs.now) c.as_slice-steps.result.now c.loop-step.step-index c.step-item.result c.loop-step.running _ _ (g.O.Sink.written c.make_step.new.out) c.loop-step-test.true c.step-item.is c.loop-step.invariant.so_far c.make_step.new.running (rw c.in-Ok-true.field-0-test at c.in-Ok-true.ensures.ok)
 
 pub returns-in-Err-make_step-clause-part : goal.returns-in-Err-make_step-clause-part
-returns-in-Err-make_step-clause-part g c = stops_here c.args.inputs.now (run_of c.args.ram_base c.args.inputs.now c.args.steps.now) c.args.steps.now c.loop-step.step-index c.step-item.result c.loop-step.running _ _ (g.O.Sink.written c.make_step.new.out) c.loop-step-test.true c.step-item.is c.loop-step.invariant.so_far c.in-Err-make_step.ensures.part
+returns-in-Err-make_step-clause-part g c = stops_here c.args.script.now c.args.inputs.now (run_of c.args.script.now c.args.inputs.now) c.as_slice-steps.result.now c.loop-step.step-index c.step-item.result c.loop-step.running _ _ (g.O.Sink.written c.make_step.new.out) c.loop-step-test.true c.step-item.is c.loop-step.invariant.so_far c.in-Err-make_step.ensures.part
 
 pub returns-in-Ok-put_line-clause-ok : goal.returns-in-Ok-put_line-clause-ok
-returns-in-Ok-put_line-clause-ok g c = ends c.args.inputs.now (run_of c.args.ram_base c.args.inputs.now c.args.steps.now) c.args.steps.now c.loop-step.step-index c.loop-step.running _ _ (g.O.Sink.written c.put_line.new.out) (omega arith) c.loop-step.invariant.so_far c.in-Ok-put_line.ensures.ok
+returns-in-Ok-put_line-clause-ok g c = ends c.args.script.now c.args.inputs.now (run_of c.args.script.now c.args.inputs.now) c.as_slice-steps.result.now c.loop-step.step-index c.loop-step.running _ _ (g.O.Sink.written c.put_line.new.out) (omega arith) c.loop-step.invariant.so_far c.in-Ok-put_line.ensures.ok
 
 pub returns-clause-part : goal.returns-clause-part
-returns-clause-part g c = stops_at_end c.args.inputs.now (run_of c.args.ram_base c.args.inputs.now c.args.steps.now) c.args.steps.now c.loop-step.step-index c.loop-step.running _ _ (g.O.Sink.written c.put_line.new.out) (omega arith) c.loop-step.invariant.so_far c.in-Err-put_line.ensures.part
+returns-clause-part g c = stops_at_end c.args.script.now c.args.inputs.now (run_of c.args.script.now c.args.inputs.now) c.as_slice-steps.result.now c.loop-step.step-index c.loop-step.running _ _ (g.O.Sink.written c.put_line.new.out) (omega arith) c.loop-step.invariant.so_far c.in-Err-put_line.ensures.part
+
+pub make_step-requires-clause-known : goal.make_step-requires-clause-known
+make_step-requires-clause-known g c =
+    let same : c.as_slice-steps.result.now ≡ c.args.script.now.step = c.as_slice-steps.ensures.value ∙ ap (λ (s : Plain). s.step) c.script.view_is in
+    step_at c.args.script.now.image c.as_slice-steps.result.now c.loop-step.step-index c.step-item.result (subst (AreSteps c.args.script.now.image) (sym same) c.requires.forms.steps) c.loop-step-test.true c.step-item.is

@@ -5,6 +5,6 @@ use Rattle.host_engine.proofs.script_run.run_steps.Given as goal
 
 abbrev pub invariant-loop-step : goal.invariant-loop-step
 invariant-loop-step g l = record {
-  so_far : SoFar (run_of l.ram_base l.inputs l.steps) (run_from l.inputs l.running (drop l.step-index l.steps)) (g.O.Sink.written l.fn.out) (g.O.Sink.written l.out);
+  so_far : SoFar (run_of l.script l.inputs) (run_from l.script l.inputs l.running (drop l.step-index l.steps)) (g.O.Sink.written l.fn.out) (g.O.Sink.written l.out);
   never : g.O.Sink.faults l.fn.out ≤ g.O.Sink.faults l.out;
 }
