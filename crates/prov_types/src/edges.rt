@@ -281,6 +281,16 @@ fn narrow_between(op: Op, went: bool, a: Kind, b: Kind) -> Option<(Kind, Kind)>
     }
 }
 
+/// Whether a name is a conditional branch's.
+pub fn is_branch(op: Op) -> bool
+    ensures { result ≡ is_branch op }
+{
+    match op {
+        Op::Beq | Op::Bne | Op::Blt | Op::Bge | Op::Bltu | Op::Bgeu => true,
+        _ => false,
+    }
+}
+
 /// The kinds of rs1 and rs2 on the edge of a conditional branch where it is taken, or on the one where it isn't. None
 /// where the edge isn't possible, since no number of one of the kinds is left.
 #[tactic(auto, unfolding(crate::specs::Narrow::narrow))]

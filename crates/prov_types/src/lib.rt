@@ -8,8 +8,10 @@ mod kinds;
 mod laws;
 mod rules;
 mod spans;
+#[cfg(test)]
+mod tests;
 
-pub use edges::narrow;
+pub use edges::{is_branch, narrow};
 pub use fitting::fits;
 pub use holding::{RegionLists, holds, is_proper, test_is_exact};
 pub use kinds::{Kind, Place, Span};

@@ -1,0 +1,4 @@
+pub mod WordLemmas
+pub mod Views
+pub mod Loops
+pub mod PartLemmas

@@ -1,0 +1,14 @@
+//! The certificate of a driver: what a TOML document says, or the first thing that is wrong with it.
+#![tactic(auto)]
+
+mod cert;
+mod fault;
+mod forms;
+mod lists;
+mod parts;
+mod reading;
+mod words;
+
+pub use cert::{Cert, CertEntry, CertSpan, Class, Node, OwnRegion, RegKind, StackPart};
+pub use fault::{CertFault, Part};
+pub use reading::read_cert;
