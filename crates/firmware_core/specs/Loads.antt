@@ -129,7 +129,7 @@ handle_of made = 16 * made
 abbrev pub has_room : State → Bool
 has_room s = is_none s.image && nat_lt s.handles (2 ^ 60 - 1)
 
--- Placing touches the image's pages, of which there is a most in all.
+-- Placing touches the image's pages; only so many pages are touched in all.
 abbrev pub lacks_frames : Pages → ℕ → ℕ → Bool
 lacks_frames m first count = nat_lt frame_limit (count_true (reserved m first count).touched)
 

@@ -39,7 +39,7 @@ fn seen_byte(view: &View, memory: &GuestMemory, at: u64) -> Option<u8>
 /// The unit that is seen at an address.
 #[tactic(auto, unfolding(uh_base::specs::Bytes::number_at))]
 fn seen_unit(view: &View, memory: &GuestMemory, at: u64) -> Option<u16>
-    ensures { result ≡ (if unit_is_seen (see view.now) memory.now at then Some (unit_at view.now memory.now at) else None) }
+    ensures { result ≡ (if unit_is_seen view.now memory.now at then Some (unit_at view.now memory.now at) else None) }
 {
     let low = seen_byte(view, memory, at)?;
     let high = seen_byte(view, memory, at.wrapping_add(1))?;
