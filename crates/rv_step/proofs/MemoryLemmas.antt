@@ -4,8 +4,8 @@ use Rattle.std.specs.Prelude.{◌≢◌, ◌==◌}
 use Rattle.std.proofs.Math.Nat.{add-mul-mod_self_left, div-add-mod, div-div-eq-div-mul, pow-succ', mod-eq_of_lt, mod-lt}
 use Rattle.std.proofs.lemmas.Bool.{eq-eqb}
 use Rattle.std.proofs.lemmas.Bool.Decides.{nat_tests}
-use Rattle.uh_base.specs.Bytes.{next, number_at, with_byte, with_number}
-use Rattle.rv_step.specs.Memory.{behind, StoresItsBytes, OtherBytesStay, StoredIsLoaded}
+use Rattle.uh_base.specs.Bytes.{behind, next, number_at, with_byte, with_number}
+use Rattle.rv_step.specs.Memory.{StoresItsBytes, OtherBytesStay, StoredIsLoaded}
 
 -- a byte written, and one that isn't
 here : (bytes : ℕ → ℕ) (at byte : ℕ) → with_byte bytes at byte at ≡ byte

@@ -8,7 +8,8 @@ use Rattle.std.proofs.lemmas.Int.{fits_signed_mul}
 use Rattle.std.proofs.lemmas.Nat.{shr_le, shr_below, xor_lt, or_lt, and_le_l, mul-lt}
 use Rattle.rv_decode.specs.declared.insn.Op.{Op}
 use Rattle.rv_decode.specs.declared.insn.Op.TheVariants as ops
-use Rattle.rv_step.specs.Values.{signed, signed32, bits_of, extended, of_bool, plus, shifted, high, quotient, remainder, overflows, quotient_signed, remainder_signed}
+use Rattle.uh_base.specs.Bytes.{plus}
+use Rattle.rv_step.specs.Values.{signed, signed32, bits_of, extended, of_bool, shifted, high, quotient, remainder, overflows, quotient_signed, remainder_signed}
 use Rattle.rv_step.specs.Asks.{asks, asks_as, branch}
 use Rattle.rv_step.specs.Exec.{IsFit}
 use Rattle.rv_step.specs.Numbers.{AsksAreFit, AsksFit, BitsFit, IsNumber}

@@ -7,7 +7,8 @@ use Rattle.rv_decode.specs.declared.insn.Op.TheVariants as ops
 use Rattle.rv_step.specs.declared.ends.Trap.TheVariants.{Ebreak, Ecall}
 use Rattle.rv_step.specs.declared.ask.Ask.{Ask}
 use Rattle.rv_step.specs.declared.ask.Ask.TheVariants.{Set, Load, Store, Jump, Stop}
-use Rattle.rv_step.specs.Values.{signed, signed32, bits_of, extended, of_bool, plus, minus, shifted, high, quotient, remainder, quotient_signed, remainder_signed}
+use Rattle.uh_base.specs.Bytes.{plus}
+use Rattle.rv_step.specs.Values.{signed, signed32, bits_of, extended, of_bool, minus, shifted, high, quotient, remainder, quotient_signed, remainder_signed}
 
 -- bit 0 cleared
 abbrev pub even : ℕ → ℕ

@@ -7,8 +7,8 @@ use Rattle.rv_step.specs.declared.ends.Trap.{Trap}
 use Rattle.rv_step.specs.declared.ends.Trap.TheVariants.{Fault, Illegal}
 use Rattle.rv_step.specs.declared.ask.Ask.{Ask}
 use Rattle.rv_step.specs.declared.ask.Ask.TheVariants.{Set, Load, Store, Jump, Stop}
-use Rattle.uh_base.specs.Bytes.{is_width, first_refused, loaded, with_number}
-use Rattle.rv_step.specs.Values.{plus, widened}
+use Rattle.uh_base.specs.Bytes.{is_width, first_refused, loaded, plus, with_number}
+use Rattle.rv_step.specs.Values.{widened}
 use Rattle.rv_step.specs.Asks.{asks}
 use Rattle.rv_decode.specs.Means.{decoded}
 

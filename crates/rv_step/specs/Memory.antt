@@ -1,10 +1,6 @@
 -- What a store leaves, byte by byte. Addresses are numbers modulo 2^64.
-use Rattle.std.specs.Prelude.{ℕ, ◌≡◌, ◌≢◌, ◌<◌, ◌≤◌, ◌+◌, ◌/◌, ◌%◌, ◌^◌}
-use Rattle.uh_base.specs.Bytes.{number_at, with_number}
-
--- the address so many behind another
-abbrev pub behind : ℕ → ℕ → ℕ
-behind at i = (at + i) % 2 ^ 64
+use Rattle.std.specs.Prelude.{ℕ, ◌≡◌, ◌≢◌, ◌<◌, ◌≤◌, ◌/◌, ◌%◌, ◌^◌}
+use Rattle.uh_base.specs.Bytes.{behind, number_at, with_number}
 
 -- each byte of a stored number is where it was stored
 abbrev pub StoresItsBytes : Type 0

@@ -4,7 +4,8 @@
 ghost use Rattle.std.specs.Prelude.{◌≡◌, ◌<◌, ◌%◌, ◌^◌, ◌+◌, Bool, slice_index};
 ghost use Rattle.rv_decode.specs.Means.{NamesRegisters};
 ghost use Rattle.rv_step.specs.declared.ask.Ask.TheVariants.{Set, Load, Store};
-ghost use Rattle.rv_step.specs.Values.{bits_of, plus};
+ghost use Rattle.uh_base.specs.Bytes.{plus};
+ghost use Rattle.rv_step.specs.Values.{bits_of};
 ghost use Rattle.rv_step.specs.Asks.{asks, asks_as, branch};
 ghost use Rattle.rv_step.specs.Exec.{IsFit};
 
