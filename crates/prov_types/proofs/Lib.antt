@@ -5,3 +5,4 @@ pub mod BoundLemmas
 pub mod EdgeLemmas
 pub mod AskLemmas
 pub mod TestLemmas
+pub mod ProperLemmas

@@ -120,7 +120,7 @@ by_one lo hi v h k = record { up = v - lo; down = hi - v; from_lo = omega arith;
 pub ends : (s : Span) (a : ℕ) → InSpan s a → (s.lo ≤ a) × (a ≤ s.hi)
 ends s a p = (omega (arith, p.from_lo), omega (arith, p.to_hi))
 
-divided : (a b k : ℕ) → a ≤ b → a / 2 ^ k ≤ b / 2 ^ k
+pub divided : (a b k : ℕ) → a ≤ b → a / 2 ^ k ≤ b / 2 ^ k
 divided a b k h = le-div (a / 2 ^ k) b (2 ^ k) (pow_pos k) (omega (arith, div-mul-le_self a (2 ^ k)))
 
 pub lowered_in : (s : Span) (a k : ℕ) → InSpan s a → InSpan (lowered s k) (a / 2 ^ k)

@@ -44,6 +44,10 @@ TransferIsSound = (g : Regions) (insn other : Insn) (place : Place) (a b : Kind)
     → Holds g b (slice_index x insn.rs2) (slice_index y insn.rs2)
     → WrittenHolds g (transfer insn place a b g.lens) (plus pc place.len) (plus qc place.len) (asks insn place.len x pc) (asks other place.len y qc)
 
+-- The transferred kind of kinds with proper spans has a proper span.
+abbrev pub TransferIsProper : Type 0
+TransferIsProper = (insn : Insn) (place : Place) (a b : Kind) (lens : List ℕ) → IsProperKind a → IsProperKind b → IsProperKind (transfer insn place a b lens)
+
 -- What the kinds of registers say of all that is asked: the register that is set, the address of a load or a store, the target of
 -- a jump, and that a branch goes one way in both runs.
 abbrev pub AsksHold : Type 0

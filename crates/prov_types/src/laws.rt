@@ -1,7 +1,7 @@
 //! The laws about two runs.
 #![tactic(auto)]
 
-ghost use Rattle.prov_types.specs.Laws.{FitsIsSound, FitsIsReflexive, FitsIsTransitive, TransferIsSound, AsksHold, ComparesAlike, NarrowIsSound};
+ghost use Rattle.prov_types.specs.Laws.{FitsIsSound, FitsIsReflexive, FitsIsTransitive, TransferIsProper, TransferIsSound, AsksHold, ComparesAlike, NarrowIsSound};
 
 use rv_step::asks_fit;
 
@@ -22,6 +22,11 @@ pub fn transfer_is_sound()
 {
     asks_fit();
 }
+
+/// The transferred kind of kinds with proper spans has a proper span.
+pub fn transfer_is_proper()
+    ensures { TransferIsProper }
+{}
 
 /// What the kinds of registers say of all that an instruction asks for.
 pub fn asks_hold()
