@@ -14,7 +14,7 @@ use Rattle.host_engine.proofs.ByteLemmas.{set_byte}
 is_in : (at : ℕ) → base ≤ at → at < base + size → is_inside at ≡ true
 is_in at low high = grind (arith, nat_tests)
 
-none_refused : (at w : ℕ) → base ≤ at → at + w ≤ base + size → first_refused is_inside at w ≡ None
+pub none_refused : (at w : ℕ) → base ≤ at → at + w ≤ base + size → first_refused is_inside at w ≡ None
 unfolding first_refused
 none_refused at zero low high = refl
 none_refused at (suc w) low high =

@@ -16,6 +16,7 @@ use crate::flat_memory::{BASE, FlatMemory};
 use crate::flat_run::{FlatCause, run};
 use crate::limits::CODE_LIMIT;
 use crate::refusal::{Refusal, read_file};
+use rv_decode::KnownWords;
 use rv_step::{Regs, Trap};
 use std::alloc::{AllocError, Global};
 use uh_base::{Files, Sink};
@@ -37,11 +38,12 @@ fn run_file(alloc: Global, file: &[u8], bound: u64) -> Result<(bool, Vec<u8>), A
     ensures text { IfOk result (λ ran. ran.1.items ≡ flat_text file.now bound) }
 {
     let mut memory = FlatMemory::with_file(alloc, file)?;
+    let mut known = KnownWords::new(alloc)?;
     let mut regs = Regs {
         x: [0; 32],
         pc: BASE,
     };
-    let end = run(&mut regs, &mut memory, bound);
+    let end = run(&mut known, &mut regs, &mut memory, bound);
     Ok((halts(end.cause), line(alloc, end, &regs)?))
 }
 

@@ -140,6 +140,8 @@ impl Bus for FlatMemory {
 
     ghost after = { λ memory at width value. tt };
 
+    ghost kept = { λ old new. Unit {0} };
+
     ghost same = { λ old new. Unit {0} };
 
     ghost same_self = { λ memory. tt };
@@ -168,6 +170,15 @@ impl Bus for FlatMemory {
         match refused(at, 2) {
             None => Ok(self.half(at)),
             Some(refused) => Err(refused),
+        }
+    }
+
+    #[tactic(auto, unfolding(uh_base::specs::Bytes::loaded, crate::specs::FlatMemories::flat_rights), using(crate::proofs::PartLemmas::none_refused))]
+    fn fetch_both(&self, at: u64) -> Option<(u16, u16)> {
+        if at >= BASE && at <= BASE + SIZE - 4 {
+            Some((self.half(at), self.half(at + 2)))
+        } else {
+            None
         }
     }
 }

@@ -8,7 +8,8 @@ ghost use Rattle.host_engine.specs.FlatMemories.{flat_bytes, flat_rights};
 ghost use Rattle.host_engine.specs.Views.{end_of};
 
 use crate::flat_memory::FlatMemory;
-use rv_step::{Regs, StepEnd, Trap, step};
+use rv_decode::KnownWords;
+use rv_step::{Regs, StepEnd, Trap, step_known};
 
 /// Why a run is over.
 #[derive(Clone, Copy, Drop)]
@@ -35,11 +36,16 @@ pub fn run_reaches_its_end()
 {}
 
 /// Makes at most so many steps.
-pub fn run(regs: &mut Regs, memory: &mut FlatMemory, bound: u64) -> FlatEnd
+pub fn run(
+    known: &mut KnownWords,
+    regs: &mut Regs,
+    memory: &mut FlatMemory,
+    bound: u64,
+) -> FlatEnd
     ensures { end_of result (state_of regs.new (flat_bytes memory.new.bytes.items)) ≡ run flat_rights bound (state_of regs.old (flat_bytes memory.old.bytes.items)) }
 {
     for steps in 0..bound {
-        match step(regs, memory) {
+        match step_known(known, regs, memory) {
             StepEnd::Next => {}
             StepEnd::Trap(trap) => return FlatEnd {
                 cause: FlatCause::Trap(trap),
