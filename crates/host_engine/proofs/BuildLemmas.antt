@@ -1,5 +1,5 @@
 -- The plans of `build` and `flat`: one file, and one put.
-use Rattle.std.proofs.Common.{◌≡◌, ℕ, Bool, true, false, List, Option, Result, Ok, Err, refl, sym, ap, subst, ◌∙◌, inl}
+use Rattle.std.proofs.Common.{◌≡◌, ℕ, Bool, false, List, Option, Ok, Err, refl, sym, subst, inl}
 use Rattle.std.specs.Prelude.{string_bytes}
 use Rattle.uh_base.specs.Told.{FileMap, grown, GrownByPart}
 use Rattle.host_engine.specs.declared.assembly.Unassembled.{Unassembled}
@@ -10,7 +10,7 @@ use Rattle.host_engine.specs.FlatRuns.{flat_end}
 use Rattle.host_engine.specs.Gives.{CommandGives, PutWhole, PutPart}
 use Rattle.host_engine.specs.Lines.{flat_text}
 use Rattle.host_engine.specs.Outside.{outside}
-use Rattle.host_engine.specs.Plans.{Way, AtOnce, Plan, Over, Prints, NotAssembled, IsFile, Leads}
+use Rattle.host_engine.specs.Plans.{Way, AtOnce, Over, Prints, IsFile, Leads}
 use Rattle.host_engine.specs.Stages.{IsWhy, refusal_of}
 use Rattle.host_engine.specs.Words.{Build, Flat}
 use Rattle.host_engine.proofs.PlanLemmas.{here, onward}

@@ -1,12 +1,12 @@
 -- Over files that are told, those that are there decide the answer.
-use Rattle.std.proofs.Common.{◌≡◌, ℕ, Bool, true, false, List, Option, Some, None, Result, Ok, Err, refl, sym, ap, subst, ◌∙◌, inl, inr}
+use Rattle.std.proofs.Common.{◌≡◌, ℕ, Bool, true, false, List, Option, Some, None, Result, Ok, Err, refl, sym, subst, ◌∙◌, inl, inr}
 use Rattle.std.specs.Prelude.{◌⊎◌}
 use Rattle.uh_base.specs.Counts.{Rose}
 use Rattle.uh_base.specs.Told.{FileMap, Lacks, IsLonger}
 use Rattle.host_engine.specs.declared.refusal.Refusal.{Refusal}
 use Rattle.host_engine.specs.declared.refusal.Refusal.TheVariants as why
 use Rattle.host_engine.specs.declared.status.Status.{Status}
-use Rattle.host_engine.specs.declared.status.Status.TheVariants.{Done, Halted, Words, Script, Read, Size, Write, Memory, Assembly}
+use Rattle.host_engine.specs.declared.status.Status.TheVariants.{Done, Halted, Script, Read, Size, Write, Memory, Assembly}
 use Rattle.host_engine.specs.Gives.{CommandGives, HostGives, IsComplete, FilesGive, MissingGives, ThereGives, status_of}
 use Rattle.host_engine.specs.Commands.{plan_of}
 use Rattle.host_engine.specs.Outside.{Outside}

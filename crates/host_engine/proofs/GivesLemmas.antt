@@ -1,5 +1,5 @@
 -- What is answered behind files that were had is answered of the whole plan.
-use Rattle.std.proofs.Common.{◌≡◌, ◌≤◌, ◌<◌, ℕ, Bool, true, false, List, Option, Some, None, Result, Ok, Err, refl, sym, ap, subst, ◌∙◌, inl, inr, arith}
+use Rattle.std.proofs.Common.{◌≡◌, ◌≤◌, ℕ, Bool, List, Option, Result, Err, refl, sym, ap, subst, ◌∙◌, inl, inr, arith}
 use Rattle.std.specs.Prelude.{◌⊎◌, string_bytes}
 use Rattle.uh_base.specs.Counts.{Rose}
 use Rattle.uh_base.specs.Told.{FileMap, Lacks, IsLonger, grown, GrownByPart}
@@ -8,10 +8,10 @@ use Rattle.host_engine.specs.declared.assembly.Unassembled.TheVariants as whys
 use Rattle.host_engine.specs.declared.refusal.Refusal.{Refusal}
 use Rattle.host_engine.specs.declared.refusal.Refusal.TheVariants as why
 use Rattle.host_engine.specs.Commands.{run_answer}
-use Rattle.host_engine.specs.Gives.{CommandGives, PutWhole, PutPart, Unread, TooLong, TakesMemory}
+use Rattle.host_engine.specs.Gives.{CommandGives, PutWhole, PutPart, TakesMemory}
 use Rattle.host_engine.specs.Jobs.{bytes_of}
 use Rattle.host_engine.specs.Outside.{outside}
-use Rattle.host_engine.specs.Plans.{Wanted, Way, ByLines, Plan, Reads, Over, Answer, Prints, NotAssembled, Leads, IsMissing}
+use Rattle.host_engine.specs.Plans.{Wanted, Way, ByLines, Plan, Reads, Over, Prints, NotAssembled, Leads, IsMissing}
 use Rattle.host_engine.specs.ScriptRuns.{Run, Ran}
 use Rattle.host_engine.specs.Stages.{Onward, Refuses, IsWhy, refusal_of}
 use Rattle.host_engine.proofs.PlanLemmas.{here, trans, read_past, missing_past, lacked, too_long}

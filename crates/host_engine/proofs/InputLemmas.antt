@@ -1,5 +1,5 @@
 -- Images under way: their files, and their texts.
-use Rattle.std.proofs.Common.{◌≡◌, ℕ, zero, suc, List, [], ◌∷◌, ◌++◌, Option, Some, None, Result, Ok, Err, length, get_or, drop, map, ◌<◌, ◌≤◌, ◌+◌, refl, sym, ap, subst, ◌∙◌, append_assoc, append-nil, arith}
+use Rattle.std.proofs.Common.{◌≡◌, ℕ, zero, suc, List, [], ◌∷◌, ◌++◌, Option, Result, Ok, Err, length, get_or, drop, map, ◌<◌, ◌≤◌, ◌+◌, refl, sym, ap, subst, ◌∙◌, append_assoc, append-nil, arith}
 use Rattle.std.specs.Prelude.{string_bytes}
 use Rattle.std.proofs.lemmas.List.{drop_more, drop_all, map-append}
 use Rattle.uh_base.specs.Told.{FileMap}
@@ -17,7 +17,7 @@ use Rattle.host_engine.specs.Assemblies.{Made, in_words, before, before_all, all
 use Rattle.host_engine.specs.Commands.{code_file, origin_read, images_read, texts_judged, script_plan}
 use Rattle.host_engine.specs.Gives.{TakesMemory}
 use Rattle.host_engine.specs.Plans.{Plan, IsFile, Leads}
-use Rattle.host_engine.specs.Stages.{Onward, Refuses, IsWhy, AssemblyGives, made}
+use Rattle.host_engine.specs.Stages.{Onward, Refuses, IsWhy, made}
 use Rattle.host_engine.proofs.PlanLemmas.{here, onward, trans}
 use Rattle.host_engine.proofs.GivesLemmas.{refused_past}
 

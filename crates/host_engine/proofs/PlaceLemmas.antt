@@ -1,14 +1,13 @@
 -- The places of a script's images.
-use Rattle.std.proofs.Common.{◌≡◌, ℕ, zero, suc, List, [], ◌∷◌, ◌++◌, Bool, true, false, not, cond, length, get_or, drop, map, ◌<◌, ◌≤◌, ◌+◌, refl, sym, ap, subst, ◌∙◌, arith}
+use Rattle.std.proofs.Common.{◌≡◌, ℕ, zero, suc, List, [], ◌∷◌, Bool, true, false, length, get_or, drop, map, ◌<◌, ◌≤◌, ◌+◌, refl, sym, ap, subst, ◌∙◌, arith}
 use Rattle.std.proofs.lemmas.List.{drop_more, drop_all, length-map}
-use Rattle.std.specs.List.{list_any}
 use Rattle.std.specs.Str.{bytes_eq}
 use Rattle.host_script.specs.Forms.{IsStep, AreSteps}
 use Rattle.host_script.specs.Script.{has_image}
 use Rattle.host_script.specs.declared.script.ImageSpec.{ImageSpec}
 use Rattle.host_script.specs.declared.script.Step.{Step}
 use Rattle.host_engine.specs.Inputs.{Inputs}
-use Rattle.host_engine.specs.ScriptRuns.{place_of, file_at}
+use Rattle.host_engine.specs.ScriptRuns.{place_of}
 
 pub place_in : (images : List ImageSpec) (name : List ℕ) → has_image images name ≡ true → place_of images name < length images
 place_in [] name h = absurd (let bad : ⊥ = cc in bad)

@@ -1,7 +1,6 @@
 -- The plan of `run`, stage by stage.
-use Rattle.std.proofs.Common.{◌≡◌, ℕ, List, map, length, Option, Result, Ok, Err, refl, sym, ap, subst, ◌∙◌, inl}
+use Rattle.std.proofs.Common.{◌≡◌, ℕ, List, Option, Result, Ok, Err, refl, sym, subst}
 use Rattle.std.specs.Prelude.{string_bytes}
-use Rattle.std.proofs.lemmas.List.{length-map}
 use Rattle.uh_base.specs.Told.{FileMap}
 use Rattle.host_script.specs.Faults.{Place}
 use Rattle.host_script.specs.Plain.{Plain}
@@ -10,7 +9,6 @@ use Rattle.host_engine.specs.declared.assembly.Unassembled.{Unassembled}
 use Rattle.host_engine.specs.declared.refusal.Refusal.TheVariants as why
 use Rattle.host_engine.specs.Commands.{script_file, script_plan, texts_judged, run_answer, place_text, plan_of}
 use Rattle.host_engine.specs.Gives.{CommandGives}
-use Rattle.host_engine.specs.Inputs.{Inputs}
 use Rattle.host_engine.specs.Outside.{outside}
 use Rattle.host_engine.specs.Plans.{Plan, Over, ScriptRefused, IsFile, Leads}
 use Rattle.host_engine.specs.ScriptRuns.{run_of}

@@ -14,7 +14,7 @@ use Rattle.host_engine.specs.FlatRuns.{Cause, Bound, Trapped, flat_end}
 use Rattle.host_engine.specs.Jobs.{bytes_of}
 use Rattle.host_engine.specs.Limits.{script_limit, code_limit}
 use Rattle.host_engine.specs.Lines.{flat_text}
-use Rattle.host_engine.specs.Plans.{Wanted, Way, Fixed, AtOnce, ByLines, Answer, Prints, ScriptRefused, NotAssembled, Plan, Reads, Over}
+use Rattle.host_engine.specs.Plans.{Wanted, Fixed, AtOnce, ByLines, Answer, Prints, ScriptRefused, NotAssembled, Plan, Reads, Over}
 use Rattle.host_engine.specs.ScriptRuns.{Run, run_of}
 use Rattle.host_engine.specs.Texts.{help_text, version_text}
 use Rattle.host_engine.specs.Words as words

@@ -36,12 +36,7 @@ pub fn run_reaches_its_end()
 {}
 
 /// Makes at most so many steps.
-pub fn run(
-    known: &mut KnownWords,
-    regs: &mut Regs,
-    memory: &mut FlatMemory,
-    bound: u64,
-) -> FlatEnd
+pub fn run(known: &mut KnownWords, regs: &mut Regs, memory: &mut FlatMemory, bound: u64) -> FlatEnd
     ensures { end_of result (state_of regs.new (flat_bytes memory.new.bytes.items)) ≡ run flat_rights bound (state_of regs.old (flat_bytes memory.old.bytes.items)) }
 {
     for steps in 0..bound {

@@ -1,4 +1,4 @@
-use Rattle.std.proofs.Common.{◌≡◌, ◌∙◌, List, ℕ, sym, subst, ap, map, [], ◌∷◌, ◌++◌, ◌+◌, length, length-append, arith}
+use Rattle.std.proofs.Common.{◌≡◌, ◌∙◌, List, sym, subst, ap, map, [], ◌∷◌, ◌+◌, length, length-append, arith}
 use Rattle.std.proofs.lemmas.List.{nil_from_length, map-append}
 use Rattle.std.specs.Vec.Iter.{into_iter_items}
 use Rattle.host_engine.specs.declared.code.Code.{Code}

@@ -1,9 +1,7 @@
-use Rattle.std.proofs.Common.{◌≡◌, ◌∙◌, sym, ap, subst, [], Ok, List, ◌∷◌, ◌+◌, length, length-append, arith, inl, refl}
+use Rattle.std.proofs.Common.{◌≡◌, ◌∙◌, sym, ap, subst, [], Ok, ◌∷◌, ◌+◌, length, length-append, arith, inl, refl}
 use Rattle.host_script.specs.Forms.{AreImages}
 use Rattle.host_script.specs.Plain.{Plain}
-use Rattle.host_script.specs.declared.script.ImageSpec.{ImageSpec}
-use Rattle.host_engine.specs.Commands.{images_read, script_plan}
-use Rattle.host_engine.specs.Plans.{Leads}
+use Rattle.host_engine.specs.Commands.{script_plan}
 use Rattle.host_engine.proofs.GivesLemmas.{onward_past}
 use Rattle.host_engine.proofs.InputLemmas.{origin_at, takes, begins, had_there, refused_there, all_read}
 use Rattle.host_engine.proofs.inputs.read_images.Goals as goal

@@ -1,4 +1,4 @@
-use Rattle.std.proofs.Common.{◌≡◌, ◌∙◌, ap, length, sym, arith}
+use Rattle.std.proofs.Common.{◌∙◌}
 use Rattle.std.proofs.lemmas.List.{length-map}
 use Rattle.host_engine.proofs.RunPlanLemmas.{text_refused, all_assembled}
 use Rattle.host_engine.proofs.run.inputs_of.Goals as goal

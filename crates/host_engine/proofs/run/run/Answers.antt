@@ -1,6 +1,5 @@
-use Rattle.std.proofs.Common.{Ok, true, false, inr}
+use Rattle.std.proofs.Common.{true, false, inr}
 use Rattle.host_engine.proofs.GivesLemmas.{refused_past, ran_whole, ran_part}
-use Rattle.host_engine.proofs.PlanLemmas.{trans}
 use Rattle.host_engine.proofs.RunPlanLemmas.{run_leads}
 use Rattle.host_engine.proofs.run.run.Goals as goal
 

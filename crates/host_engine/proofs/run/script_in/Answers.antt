@@ -1,7 +1,4 @@
-use Rattle.std.proofs.Common.{◌≡◌, sym, ap, subst, refl, Ok, Err}
-use Rattle.host_script.specs.Script.{script_in}
-use Rattle.host_engine.specs.Commands.{script_file, script_plan}
-use Rattle.host_engine.proofs.PlanLemmas.{here, onward}
+use Rattle.std.proofs.Common.{sym}
 use Rattle.host_engine.proofs.RunPlanLemmas.{script_had, script_refused}
 use Rattle.host_engine.proofs.run.script_in.Goals as goal
 

@@ -1,6 +1,5 @@
-use Rattle.std.proofs.Common.{◌≡◌, ◌∙◌, ap, true}
+use Rattle.std.proofs.Common.{◌∙◌, ap}
 use Rattle.host_script.specs.Plain.{Plain}
-use Rattle.host_script.specs.Script.{has_image}
 use Rattle.host_engine.proofs.PlaceLemmas.{is_handed}
 use Rattle.host_engine.proofs.script_run.make_step.Goals as goal
 
