@@ -7,6 +7,8 @@ mod forms;
 mod lists;
 mod parts;
 mod reading;
+#[cfg(test)]
+mod tests;
 mod words;
 
 pub use cert::{Cert, CertEntry, CertSpan, Class, Node, OwnRegion, RegKind, StackPart};

@@ -1,0 +1,250 @@
+//! Certificates by hand from docs/certificate.md, and its worked one.
+use crate::{CertFault, Class, Part, read_cert};
+use prov_types::{Kind, Span};
+use std::alloc::Global;
+use std::process::Abort;
+use std::test::Fail;
+
+/// The worked certificate.
+const WORKED: &str = "regions = [\"0 0x2008 16384\"]
+spans = [\"0 0x1074 116 code\", \"0 0x2000 8 convert p 4 256\", \"0 0x2008 8 convert p 6 0\", \"0 0x2010 8 fixed\", \"6 0 8 plain\"]
+entries = [\"count 0; a0 n\"]
+notify = [3]
+nodes = [
+\"0x1074; ra p 3 0, sp p 1 65536, a0 n; ; 1; \",
+\"0x1078; ra p 3 0, sp p 1 65536, t0 p 0 0x2074, a0 n; ; 2; \",
+\"0x10a0; ra p 3 0, sp p 1 65536, a0 n; ; ; \",
+\"0x10a4; ra p 5 1072, sp p 1 65536; ; 4; \",
+\"0x10ac; sp p 1 65520; 65528 8 p 5 1072; 5; \",
+\"0x10e4; ra p 5 1072, sp p 1 65536; ; ; 0 1\",
+]
+";
+
+#[test]
+fn worked_certificate_is_read(rt: HostRuntime) -> Result<(), Fail> {
+    let cert = match read_cert(rt.alloc(), WORKED.as_bytes()) {
+        Ok(cert) => cert,
+        Err(fault) => panic!(rt; "{fault:?}"),
+    };
+    assert!(rt; cert.regions.len() == 1 && cert.spans.len() == 5 && cert.entries.len() == 1);
+    assert!(rt; cert.notify.as_slice() == [3].as_slice() && cert.nodes.len() == 6);
+    assert!(rt; cert.regions[0].cell_at == 0x2008 && cert.regions[0].len == 16384);
+    let cell = Kind::Ptr(
+        6,
+        Span {
+            lo: 0,
+            hi: 0,
+            by: 1,
+        },
+    );
+    assert!(rt; cert.spans[2].class == Class::Convert(cell));
+    assert!(rt; cert.entries[0].name.as_str() == "count" && cert.entries[0].node == 0);
+    let last = &cert.nodes[5];
+    assert!(rt; last.at == 0x10e4 && last.regs.len() == 2 && last.next.is_empty());
+    assert!(rt; last.done.as_slice() == [0, 1].as_slice());
+    let part = &cert.nodes[4].stack[0];
+    assert!(rt; part.at == 65528 && part.width == 8);
+    Ok(())
+}
+
+/// Reads each text, and compares the fault.
+fn compare(rt: &impl Abort, alloc: Global, rows: &[(&str, Part, u32)]) -> Result<(), Fail> {
+    for (text, part, index) in rows {
+        let fault = read_cert(alloc, text.as_bytes()).err();
+        let wanted = Some(CertFault::At {
+            part: *part,
+            index: *index,
+        });
+        assert!(rt; fault == wanted, "{text}: {fault:?}");
+    }
+    Ok(())
+}
+
+/// Documents, each with its fault.
+static DOCUMENTS: [(&str, Part, u32); 9] = [
+    ("regions = [", Part::Text, 0),
+    ("regions = [9223372036854775808]", Part::Text, 0),
+    ("", Part::Keys, 0),
+    (
+        "regions = []\nspans = []\nentries = []\nnotify = []\n",
+        Part::Keys,
+        0,
+    ),
+    (
+        "regions = []\nspans = []\nentries = []\nnotify = []\nnodes = 1\n",
+        Part::Keys,
+        0,
+    ),
+    (
+        "regions = []\nspans = []\nentries = []\nnotify = []\nnodes = []\nmore = 1\n",
+        Part::Keys,
+        0,
+    ),
+    (
+        "regions = []\nspans = []\nentries = []\nnotify = [0, 0, 0, 0, 0, 0, 0, 0, 0, 0, 0, 0, 0, 0, 0, 0, 0]\nnodes = []\n",
+        Part::Keys,
+        0,
+    ),
+    (
+        "regions = []\nspans = []\nentries = []\nnotify = []\n[[nodes]]\nat = 1\n",
+        Part::Nodes,
+        0,
+    ),
+    (
+        "regions = [1]\nspans = [1]\nentries = [1]\nnotify = [1]\nnodes = [1]\n",
+        Part::Regions,
+        0,
+    ),
+];
+
+#[test]
+fn documents_have_their_faults(rt: HostRuntime) -> Result<(), Fail> {
+    compare(&rt, rt.alloc(), &DOCUMENTS)
+}
+
+/// Items behind good ones, where there are one own region, one node and one convertible cell: the lists, and the fault
+/// of the last item of the one that is judged.
+static ITEMS: [(&str, &str, &str, &str, &str, Part, u32); 46] = [
+    ("\"6 0 8\"", "", "", "", "", Part::Regions, 0),
+    ("\"0 0 8\", \"7 0 8\"", "", "", "", "", Part::Regions, 1),
+    ("\"0 0\"", "", "", "", "", Part::Regions, 0),
+    ("\"0 0 8 9\"", "", "", "", "", Part::Regions, 0),
+    ("\"0 00 8\"", "", "", "", "", Part::Regions, 0),
+    (
+        "\"0 0 18446744073709551616\"",
+        "",
+        "",
+        "",
+        "",
+        Part::Regions,
+        0,
+    ),
+    ("\"0\\t0 8\"", "", "", "", "", Part::Regions, 0),
+    ("", "\"6 0 8 plain\"", "", "", "", Part::Spans, 0),
+    (
+        "",
+        "\"0 0 8 plain\", \"0 0 8 plane\"",
+        "",
+        "",
+        "",
+        Part::Spans,
+        1,
+    ),
+    ("", "\"0 0 8 plain n\"", "", "", "", Part::Spans, 0),
+    ("", "\"0 0 3 num n\"", "", "", "", Part::Spans, 0),
+    ("", "\"0 0 8 num p 0 0\"", "", "", "", Part::Spans, 0),
+    ("", "\"0 0 8 num any\"", "", "", "", Part::Spans, 0),
+    ("", "\"0 0 4 fixed\"", "", "", "", Part::Spans, 0),
+    ("", "\"0 0 8 convert n\"", "", "", "", Part::Spans, 0),
+    ("", "\"0 0 4 convert p 0 0\"", "", "", "", Part::Spans, 0),
+    ("", "\"0 0 8 num n 0 8 0\"", "", "", "", Part::Spans, 0),
+    ("", "\"0 0 8 num n 8 0 1\"", "", "", "", Part::Spans, 0),
+    ("", "\"0 0 8 num n 0 7 2\"", "", "", "", Part::Spans, 0),
+    ("", "\"0 0 8 num n 5\"", "", "", "", Part::Spans, 0),
+    ("", "\"0 0 8 num c\"", "", "", "", Part::Spans, 0),
+    ("", "\"0 0 8 convert p 6 0\"", "", "", "", Part::Spans, 0),
+    ("", "\"0 0 8 convert o 0 0 8\"", "", "", "", Part::Spans, 0),
+    ("", "", "\"count 1; \"", "", "", Part::Entries, 0),
+    ("", "", "\"count 0\"", "", "", Part::Entries, 0),
+    ("", "", "\"Count 0; \"", "", "", Part::Entries, 0),
+    ("", "", "\"count 0; a0 n; \"", "", "", Part::Entries, 0),
+    ("", "", "\"count 0; a0 n, a0 n\"", "", "", Part::Entries, 0),
+    ("", "", "\"count 0; a9 n\"", "", "", Part::Entries, 0),
+    ("", "", "\"count 0; a0 n,\"", "", "", Part::Entries, 0),
+    ("", "", "", "1", "", Part::Notify, 0),
+    ("", "", "", "0, -1", "", Part::Notify, 1),
+    ("", "", "", "\"0\"", "", Part::Notify, 0),
+    ("", "", "", "", "\"0; ; ; \"", Part::Nodes, 1),
+    ("", "", "", "", "\"0; ; ; ; ;\"", Part::Nodes, 1),
+    ("", "", "", "", "\"; ; ; ; \"", Part::Nodes, 1),
+    ("", "", "", "", "\"0; ra; ; ; \"", Part::Nodes, 1),
+    ("", "", "", "", "\"0; x1 n; ; ; \"", Part::Nodes, 1),
+    (
+        "",
+        "",
+        "",
+        "",
+        "\"0; ra n, zero n, ra n; ; ; \"",
+        Part::Nodes,
+        1,
+    ),
+    ("", "", "", "", "\"0; ; 4 8 n; ; \"", Part::Nodes, 1),
+    ("", "", "", "", "\"0; ; 0 3 n; ; \"", Part::Nodes, 1),
+    ("", "", "", "", "\"0; ; 0 8 n, 4 4 n; ; \"", Part::Nodes, 1),
+    ("", "", "", "", "\"0; ; ; 2; \"", Part::Nodes, 1),
+    ("", "", "", "", "\"0; ; ; 0, 1; \"", Part::Nodes, 1),
+    ("", "", "", "", "\"0; ; ; ; 0\"", Part::Nodes, 1),
+    ("", "", "", "", "\"0; ; ; -1; \"", Part::Nodes, 1),
+];
+
+#[test]
+fn items_have_their_faults(rt: HostRuntime) -> Result<(), Fail> {
+    let alloc = rt.alloc();
+    for (regions, spans, entries, notify, node, part, index) in &ITEMS {
+        let text = format!(in alloc;
+            "regions = [{regions}]\nspans = [{spans}]\nentries = [{entries}]\nnotify = [{notify}]\nnodes = [\"0; zero any; 8 8 n 5 5 8,0 8 c 1 ; 0  0 ; \", {node}]\n"
+        )?;
+        let text = if node.is_empty() {
+            format!(in alloc;
+                "regions = [{regions}]\nspans = [{spans}]\nentries = [{entries}]\nnotify = [{notify}]\nnodes = [\"0; zero any; 8 8 n 5 5 8,0 8 c 1 ; 0  0 ; \"]\n"
+            )?
+        } else {
+            text
+        };
+        let fault = read_cert(alloc, text.as_bytes()).err();
+        let wanted = Some(CertFault::At {
+            part: *part,
+            index: *index,
+        });
+        assert!(rt; fault == wanted, "{text}: {fault:?}");
+    }
+    Ok(())
+}
+
+#[test]
+fn cut_certificates_are_refused(rt: HostRuntime) -> Result<(), Fail> {
+    let bytes = WORKED.as_bytes();
+    let last = bytes.len() - 1;
+    for end in 0..last {
+        let cut = read_cert(rt.alloc(), &bytes[..end]).err();
+        let refused = match cut {
+            Some(
+                CertFault::At {
+                    part: Part::Text | Part::Keys,
+                    index: 0,
+                },
+            ) => true,
+            _ => false,
+        };
+        assert!(rt; refused, "{end}: {cut:?}");
+    }
+    Ok(())
+}
+
+#[test]
+fn lists_of_4096_are_read(rt: HostRuntime) -> Result<(), Fail> {
+    let alloc = rt.alloc();
+    for count in 4096..4098 {
+        let mut text = String::from_str(
+            alloc,
+            "regions = []\nspans = []\nentries = []\nnotify = []\nnodes = [\n",
+        )?;
+        for _ in 0..count {
+            text.push_str("\"0x1074; ra p 3 0, sp p 1 65536, a0 n; 65528 8 p 5 1072; 1; \",\n")?;
+        }
+        text.push_str("]\n")?;
+        let read = match read_cert(alloc, text.as_bytes()) {
+            Ok(cert) => cert.nodes.len(),
+            Err(
+                CertFault::At {
+                    part: Part::Keys,
+                    index: 0,
+                },
+            ) => 0,
+            Err(_) => 1,
+        };
+        let wanted = if count == 4096 { 4096 } else { 0 };
+        assert!(rt; read == wanted, "{count}: {read}");
+    }
+    Ok(())
+}
