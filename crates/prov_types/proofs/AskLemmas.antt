@@ -7,15 +7,16 @@ use Rattle.rv_decode.specs.declared.insn.Insn.{Insn}
 use Rattle.rv_decode.specs.declared.insn.Op.{Op}
 use Rattle.rv_decode.specs.declared.insn.Op.TheVariants as ops
 use Rattle.rv_step.specs.Numbers.{IsNumber, AsksFit}
-use Rattle.rv_step.specs.Asks.{asks, asks_as}
-use Rattle.rv_step.specs.Values.{plus, bits_of, shifted, signed, signed32, high, extended, quotient, remainder, quotient_signed, remainder_signed}
+use Rattle.rv_step.specs.Asks.{asks, asks_as, compares}
+use Rattle.uh_base.specs.Bytes.{plus}
+use Rattle.rv_step.specs.Values.{bits_of, shifted, signed, signed32, high, extended, quotient, remainder, quotient_signed, remainder_signed}
 use Rattle.prov_types.specs.declared.kinds.Span.{Span}
 use Rattle.prov_types.specs.declared.kinds.Kind.{Kind}
 use Rattle.prov_types.specs.declared.kinds.Kind.TheVariants.{Any, Num, Ptr, Opt}
 use Rattle.prov_types.proofs.EdgeLemmas.{IsSaid, said as said_so, numbers_narrowed, pointers_narrowed}
 use Rattle.prov_types.proofs.RuleLemmas.{added_holds, subtracted_holds, moved_holds, shifted_left_holds, shifted_right_holds, masked_holds, anded_holds, rest_holds, ordered_holds, ordered_unsigned_holds, any_number, any_holds, constant, word_sum, equal_same, zero_same, tests_same}
 use Rattle.prov_types.specs.declared.edges.Said.{Said}
-use Rattle.prov_types.specs.Asked.{AskHolds, BothHold, ForksAlike, SetsAlike, SiteHolds, SiteMoves, WrittenHolds, asked_kinds, compares, is_equality_or_unsigned, kind_asked, may_compare}
+use Rattle.prov_types.specs.Asked.{AskHolds, BothHold, ForksAlike, SetsAlike, SiteHolds, SiteMoves, WrittenHolds, asked_kinds, is_equality_or_unsigned, kind_asked, may_compare}
 use Rattle.prov_types.specs.Fits.{fits, is_null}
 use Rattle.prov_types.specs.Kinds.{AreApart, Holds, HoldsNum, HoldsOpt, HoldsPtr, IsProperKind, Regions, length_of, nought, pointed}
 use Rattle.prov_types.specs.Laws.{AsksHold, ComparesAlike, NarrowIsSound, OneInstruction, TransferIsSound}

@@ -12,7 +12,8 @@ use Rattle.prov_types.specs.declared.kinds.Span.{Span}
 use Rattle.prov_types.specs.declared.kinds.Kind.TheVariants.{Num, Ptr}
 use Rattle.prov_types.proofs.SpanLemmas.{ends, spans}
 use Rattle.prov_types.proofs.BoundLemmas.{caps, floors}
-use Rattle.prov_types.specs.Asked.{BothHold, compares}
+use Rattle.prov_types.specs.Asked.{BothHold}
+use Rattle.rv_step.specs.Asks.{compares}
 use Rattle.prov_types.specs.Kinds.{HoldsPtr, Regions}
 use Rattle.prov_types.specs.Narrow.{above_some, below_some, both_low, capped, equal_some, floored, narrow_numbers, narrow_pointers, only, pair_of, said_by, unlike_some, without_end}
 use Rattle.prov_types.specs.Spans.{InSpan, IsProper, spanning}

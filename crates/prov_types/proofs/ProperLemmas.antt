@@ -1,5 +1,5 @@
 -- Rules keep spans proper.
-use Rattle.std.proofs.Common.{◌≡◌, ℕ, zero, suc, ◌≤◌, ◌<◌, ◌+◌, ◌-◌, ◌%◌, ◌/◌, ◌*◌, ◌^◌, ℤ, pos, arith, Bool, true, false, refl, sym, ◌∙◌, ap, subst, Option, Some, None, List}
+use Rattle.std.proofs.Common.{◌≡◌, ℕ, ◌≤◌, ◌<◌, ◌+◌, ◌-◌, ◌%◌, ◌*◌, ◌^◌, ℤ, pos, arith, Bool, true, false, refl, sym, ◌∙◌, ap, subst, Option, Some, None, List}
 use Rattle.std.specs.Prelude.{◌==◌, ◌&&◌, if◌then◌else◌, nat_lt, int_lt, min, unsigned_abs}
 use Rattle.std.proofs.lemmas.Bool.Decides.{nat_tests}
 use Rattle.std.proofs.Math.Nat.{add-mul-mod_self_left, mul_comm}
@@ -9,7 +9,7 @@ use Rattle.rv_step.specs.Values.{bits_of, extended}
 use Rattle.prov_types.specs.declared.kinds.Span.{Span}
 use Rattle.prov_types.specs.declared.kinds.Place.{Place}
 use Rattle.prov_types.specs.declared.kinds.Kind.{Kind}
-use Rattle.prov_types.specs.declared.kinds.Kind.TheVariants.{Any, Num, Ptr, Opt}
+use Rattle.prov_types.specs.declared.kinds.Kind.TheVariants.{Any, Num, Ptr}
 use Rattle.prov_types.specs.Spans.{IsProper, InSpan, step_of, spanning, one, whole, sum, difference, raised, lowered, below, gcd, made}
 use Rattle.prov_types.specs.Kinds.{IsProperKind, length_of}
 use Rattle.prov_types.specs.Transfer.{number, pointer, added, subtracted, moved, shifted_left, shifted_right, masked, anded, rest_of, flag, ordered_unsigned, ordered, moved_span, is_below_31_bits, is_span, moved_word, any_of, image_kind, upper_kind, transfer_as, transfer}

@@ -1,13 +1,14 @@
 -- What an instruction asks for, in kinds, and what that says of the same instruction in two runs. (RISC-V unprivileged manual,
 -- version 20191213)
-use Rattle.std.specs.Prelude.{ℕ, ℤ, ◌≡◌, ◌+◌, ◌<◌, ◌==◌, ◌&&◌, not, nat_lt, int_lt, Bool, true, false, List, Option, Some, None, if◌then◌else◌, FitsSigned}
+use Rattle.std.specs.Prelude.{ℕ, ℤ, ◌≡◌, ◌+◌, ◌<◌, ◌==◌, ◌&&◌, Bool, true, false, List, Option, Some, None, if◌then◌else◌, FitsSigned}
 use Rattle.std.specs.Int.{w64}
 use Rattle.rv_decode.specs.declared.insn.Insn.{Insn}
 use Rattle.rv_decode.specs.declared.insn.Op.{Op}
 use Rattle.rv_decode.specs.declared.insn.Op.TheVariants as ops
 use Rattle.rv_step.specs.declared.ask.Ask.{Ask}
 use Rattle.rv_step.specs.declared.ask.Ask.TheVariants.{Set, Load, Store, Jump}
-use Rattle.rv_step.specs.Values.{bits_of, plus, signed}
+use Rattle.uh_base.specs.Bytes.{plus}
+use Rattle.rv_step.specs.Values.{bits_of}
 use Rattle.rv_step.specs.Asks.{even}
 use Rattle.prov_types.specs.declared.kinds.Place.{Place}
 use Rattle.prov_types.specs.declared.kinds.Kind.{Kind}
@@ -17,16 +18,6 @@ use Rattle.prov_types.specs.Kinds.{Regions, Holds}
 use Rattle.prov_types.specs.Fits.{is_null}
 use Rattle.prov_types.specs.Transfer.{transfer_as, moved}
 use Rattle.prov_types.specs.Narrow.{narrow_between, is_equality}
-
--- what a comparison says of two registers (2.5)
-abbrev pub compares : Op → (a b : ℕ) → Bool
-compares ops.Beq a b = a == b
-compares ops.Bne a b = not (a == b)
-compares ops.Blt a b = int_lt (signed a) (signed b)
-compares ops.Bge a b = not (int_lt (signed a) (signed b))
-compares ops.Bltu a b = nat_lt a b
-compares ops.Bgeu a b = not (nat_lt a b)
-compares _ a b = false
 
 abbrev pub is_equality_or_unsigned : Op → Bool
 is_equality_or_unsigned ops.Beq = true

@@ -2,8 +2,8 @@
 use Rattle.std.specs.Prelude.{ℕ, ◌≡◌, ◌+◌, ◌≤◌, true, List, slice_index, FitsSigned}
 use Rattle.std.specs.Int.{w64}
 use Rattle.rv_decode.specs.declared.insn.Insn.{Insn}
-use Rattle.rv_step.specs.Asks.{asks}
-use Rattle.rv_step.specs.Values.{plus}
+use Rattle.rv_step.specs.Asks.{asks, compares}
+use Rattle.uh_base.specs.Bytes.{plus}
 use Rattle.rv_step.specs.Numbers.{AreNumbers}
 use Rattle.prov_types.specs.declared.kinds.Kind.{Kind}
 use Rattle.prov_types.specs.declared.kinds.Place.{Place}
@@ -11,7 +11,7 @@ use Rattle.prov_types.specs.Kinds.{Regions, AreApart, Holds, IsProperKind, lengt
 use Rattle.prov_types.specs.Fits.{fits}
 use Rattle.prov_types.specs.Transfer.{transfer}
 use Rattle.prov_types.specs.Narrow.{narrow}
-use Rattle.prov_types.specs.Asked.{AskHolds, BothHold, SiteHolds, WrittenHolds, asked_kinds, compares, may_compare}
+use Rattle.prov_types.specs.Asked.{AskHolds, BothHold, SiteHolds, WrittenHolds, asked_kinds, may_compare}
 
 -- a value of a kind is of each kind that it fits
 abbrev pub FitsIsSound : Type 0

@@ -4,7 +4,8 @@ use Rattle.std.specs.Prelude.{ℕ, ℤ, pos, Bool, true, false, ◌%◌, ◌^◌
 use Rattle.rv_decode.specs.declared.insn.Insn.{Insn}
 use Rattle.rv_decode.specs.declared.insn.Op.{Op}
 use Rattle.rv_decode.specs.declared.insn.Op.TheVariants as ops
-use Rattle.rv_step.specs.Values.{bits_of, extended, plus}
+use Rattle.uh_base.specs.Bytes.{plus}
+use Rattle.rv_step.specs.Values.{bits_of, extended}
 use Rattle.prov_types.specs.declared.kinds.Span.{Span}
 use Rattle.prov_types.specs.declared.kinds.Place.{Place}
 use Rattle.prov_types.specs.declared.kinds.Kind.{Kind}
