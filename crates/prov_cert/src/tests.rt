@@ -42,7 +42,9 @@ fn worked_certificate_is_read(rt: HostRuntime) -> Result<(), Fail> {
     let last = &cert.nodes[5];
     assert!(rt; last.at == 0x10e4 && last.regs.len() == 2 && last.next.is_empty());
     assert!(rt; last.done.as_slice() == [0, 1].as_slice());
-    let part = &cert.nodes[4].stack[0];
+    let stack = cert.nodes[4].stack.as_slice();
+    assert!(rt; stack.len() == 1);
+    let part = &stack[0];
     assert!(rt; part.at == 65528 && part.width == 8);
     Ok(())
 }
