@@ -1,17 +1,16 @@
 -- The sites of entries, in order.
-use Rattle.std.proofs.Common.{◌≡◌, ℕ, ◌+◌, ◌%◌, ◌^◌, List, [], ◌∷◌, ◌++◌, refl, sym, ap, ◌∙◌, Bool, true, false}
-use Rattle.std.specs.Prelude.{nat_lt, Result, Ok, Err, Option, Some, None, if◌then◌else◌}
+use Rattle.std.proofs.Common.{◌≡◌, ℕ, ◌+◌, List, [], ◌∷◌, ◌++◌, refl, sym, ap, ◌∙◌, Bool, true, false}
+use Rattle.std.specs.Prelude.{nat_lt, Result, Ok, Err, if◌then◌else◌}
 use Rattle.std.specs.List.{list_any}
 use Rattle.std.proofs.lemmas.List.{append_assoc, append-nil}
 use Rattle.base_reloc.specs.declared.fault.RelocFault.{RelocFault}
 use Rattle.base_reloc.specs.declared.fault.RelocFault.TheVariants as faults
 use Rattle.base_reloc.specs.declared.site.Site.{Site}
-use Rattle.base_reloc.specs.declared.site.SiteKind.TheVariants.{Dir64}
 use Rattle.base_reloc.specs.declared.entry.EntryKind.{EntryKind}
 use Rattle.base_reloc.specs.declared.entry.EntryKind.TheVariants.{Padding, Moved, Unmoved, Unknown}
 use Rattle.base_reloc.specs.Sites.{width_of, meets}
 use Rattle.base_reloc.specs.Blocks.{Part, Entry, Broken, parts_of, table_of}
-use Rattle.base_reloc.specs.Kept.{kind_of, type_in, offset_in, with_room, kept_with, sites_from, sites_in, ◌>>=◌}
+use Rattle.base_reloc.specs.Kept.{kind_of, type_in, offset_in, kept_with, sites_from, sites_in, ◌>>=◌}
 use Rattle.base_reloc.specs.Moved.{moved_word, moved_byte}
 use Rattle.base_reloc.specs.Laws.{site_before, moved_entries, SitesAreEntries, OtherBytesStay, Dir64Moves}
 

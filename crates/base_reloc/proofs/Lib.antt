@@ -6,3 +6,4 @@ pub mod SiteLemmas
 pub mod MoveLemmas
 pub mod LawLemmas
 pub mod EntriesLemmas
+pub mod WordLemmas

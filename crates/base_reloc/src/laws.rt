@@ -7,7 +7,7 @@ ghost use Rattle.base_reloc.specs.Sites.{AreSites, width_of};
 ghost use Rattle.base_reloc.specs.Blocks.{parts_from, with_block};
 ghost use Rattle.base_reloc.specs.Kept.{sites_in};
 ghost use Rattle.base_reloc.specs.Moved.{moved_word, sum};
-ghost use Rattle.base_reloc.specs.Laws.{SitesAreEntries, OtherBytesStay, Dir64Moves};
+ghost use Rattle.base_reloc.specs.Laws.{SitesAreEntries, OtherBytesStay, Dir64Moves, WordsMove, WordsMoveTwice};
 ghost use Rattle.base_reloc.specs.declared.site.Site.{Site as AnySite};
 ghost use Rattle.base_reloc.specs.declared.site.SiteKind.{SiteKind as AnyKind};
 
@@ -44,4 +44,11 @@ pub fn other_bytes_stay()
 /// A word of 64 bits moves by the displacement, modulo 2^64.
 pub fn dir64_moves()
     ensures { Dir64Moves }
+{}
+
+/// The word of 64 bits at a site is, behind `apply`, what it was, and the displacement, modulo 2^64; and behind two
+/// of them it is what it was at first, and both displacements.
+pub fn words_move()
+    ensures once { WordsMove }
+    ensures twice { WordsMoveTwice }
 {}

@@ -15,7 +15,7 @@ mod tests;
 pub use fault::RelocFault;
 pub use laws::{
     blocks_follow_each_other, dir64_moves, moves_add, no_move_changes_nothing, other_bytes_stay,
-    read_sites_are_sound, sites_are_entries,
+    read_sites_are_sound, sites_are_entries, words_move,
 };
 pub use moving::apply;
 pub use reading::read_sites;
