@@ -10,3 +10,4 @@ pub mod LoopLemmas
 pub mod BaseLemmas
 pub mod TouchLaws
 pub mod PlaceLaws
+pub mod FrameLemmas

@@ -51,7 +51,7 @@ bytes_written ws old new at bytes put are whole ok e =
 pub rights_written : (see : ℕ → Option ℕ) (old new : Pages) (at : ℕ) (bytes : List ℕ) → new ≡ stored see old at bytes → rights_at new ≡ rights_at old
 rights_written see old new at bytes e = ap rights_at e ∙ rights_store see old at bytes
 
-marks_stored : (see : ℕ → Option ℕ) (m : Pages) (at : ℕ) (bytes : List ℕ) → (stored see m at bytes).touched ≡ marked see m.base m.touched at (length bytes)
+pub marks_stored : (see : ℕ → Option ℕ) (m : Pages) (at : ℕ) (bytes : List ℕ) → (stored see m at bytes).touched ≡ marked see m.base m.touched at (length bytes)
 marks_stored see m at bytes = ap (λ (k : Pages). k.touched) (stored_over see m m.touched at bytes)
 
 pub marks_written : (see : ℕ → Option ℕ) (old new : Pages) (at : ℕ) (bytes : List ℕ) → all_touched see old at (length bytes) ≡ true → new ≡ stored see old at bytes → new.touched ≡ old.touched

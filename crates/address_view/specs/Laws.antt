@@ -1,5 +1,5 @@
 -- Laws of loads and stores, where `see` is the place that each address shows.
-use Rattle.std.specs.Prelude.{ℕ, ◌≡◌, ◌≢◌, ◌<◌, ◌^◌, ◌↔◌, ◌⊎◌, Bool, true, false, List, length, Option, Some}
+use Rattle.std.specs.Prelude.{ℕ, ◌≡◌, ◌≢◌, ◌<◌, ◌^◌, ◌↔◌, ◌⊎◌, Bool, true, false, List, ◌∷◌, length, Option, Some}
 use Rattle.uh_base.specs.Bytes.{number_at, behind}
 use Rattle.rv_step.specs.declared.bus.Access.{Access}
 use Rattle.guest_memory.specs.Runs.{bytes_from}
@@ -7,6 +7,8 @@ use Rattle.guest_memory.specs.Pages.{Pages, Whole, bytes_of, rights_at, touched_
 use Rattle.address_view.specs.Windows.{seen_bytes}
 use Rattle.address_view.specs.Seen.{all_pass, view_allows, is_seen}
 use Rattle.address_view.specs.Stored.{stored, marked, lacks_seen, all_touched}
+use Rattle.address_view.specs.declared.frames.ByteRange.{ByteRange}
+use Rattle.address_view.specs.Ranges.{lacks_ranges}
 
 -- so many addresses, from one on, all pass a test
 abbrev pub AllPass : (ℕ → Bool) → ℕ → ℕ → Type 0
@@ -61,3 +63,12 @@ SameMarked = (see : ℕ → Option ℕ) (m : Pages) (at n : ℕ) → all_touched
 abbrev pub StoredOver : Type 0
 StoredOver = (see : ℕ → Option ℕ) (m : Pages) (marks : List Bool) (at : ℕ) (bytes : List ℕ)
     → stored see (record m { touched = marks }) at bytes ≡ record (stored see m at bytes) { touched = marked see m.base marks at (length bytes) }
+
+-- where stores into several ranges don't lack frames together, the first doesn't, and the others don't behind it
+pub record Suffice (see : ℕ → Option ℕ) (m : Pages) (range : ByteRange) (ranges : List ByteRange) : Type 0 where
+  pub first : lacks_seen see m range.at range.len ≡ false
+  pub touched : lacks_ranges see (record m { touched = marked see m.base m.touched range.at range.len }) ranges ≡ false
+  pub stored : (bytes : List ℕ) → length bytes ≡ range.len → lacks_ranges see (stored see m range.at bytes) ranges ≡ false
+
+abbrev pub RangesSuffice : Type 0
+RangesSuffice = (see : ℕ → Option ℕ) (m : Pages) (range : ByteRange) (ranges : List ByteRange) → lacks_ranges see m (range ∷ ranges) ≡ false → Suffice see m range ranges

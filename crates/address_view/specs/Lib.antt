@@ -1,4 +1,5 @@
 pub mod Windows
 pub mod Seen
 pub mod Stored
+pub mod Ranges
 pub mod Laws

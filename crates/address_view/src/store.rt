@@ -20,7 +20,7 @@ use std::alloc::AllocError;
 use uh_base::write_number;
 
 /// The most pages that are touched at one time.
-const FRAMES: u64 = 65536;
+pub(crate) const FRAMES: u64 = 65536;
 
 /// The most pages that a memory has.
 const MOST_PAGES: usize = 1048576;
@@ -83,15 +83,25 @@ fn mark(memory: &GuestMemory, view: &View, marks: &mut [bool], at: u64) -> u64
     1
 }
 
-/// How many pages are touched once those that so many addresses show are marked besides.
+/// How many pages are marked once those that so many addresses show are marked besides; so many are before.
 #[tactic(auto, unfolding(crate::specs::Stored::marked))]
-fn count_marks(memory: &GuestMemory, view: &View, marks: &mut [bool], at: u64, len: u64) -> u64
+pub(crate) fn count_marks(
+    memory: &GuestMemory,
+    view: &View,
+    marks: &mut [bool],
+    before: u64,
+    at: u64,
+    len: u64,
+) -> u64
     requires allowed { AllSeen (see view.now) memory.now at len }
-    requires marks { marks.old ≡ memory.now.touched }
-    ensures { result ≡ count_true (marked (see view.now) memory.now.base memory.now.touched at len) }
+    requires long { length marks.old ≡ memory.now.pages }
+    requires before { before ≡ count_true marks.old }
+    ensures marks { marks.new ≡ marked (see view.now) memory.now.base marks.old at len }
+    ensures long { length marks.new ≡ memory.now.pages }
+    ensures count { result ≡ count_true marks.new }
 {
     memory.whole();
-    let mut count = u64::from(memory.touched());
+    let mut count = before;
     let mut here = at;
     for _ in 0..len {
         count += mark(memory, view, marks, here);
@@ -101,7 +111,7 @@ fn count_marks(memory: &GuestMemory, view: &View, marks: &mut [bool], at: u64, l
 }
 
 /// Room for the marks of all pages that a memory may have.
-fn no_marks() -> [bool; MOST_PAGES]
+pub(crate) fn no_marks() -> [bool; MOST_PAGES]
     ensures { length result ≡ 1048576 }
 {
     [false; MOST_PAGES]
@@ -118,7 +128,7 @@ fn count_after(memory: &GuestMemory, view: &View, at: u64, len: u64) -> u64
     let mut marks = no_marks();
     let marks = &mut marks[..memory.pages() as usize];
     memory.copy_marks(marks);
-    count_marks(memory, view, marks, at, len)
+    count_marks(memory, view, marks, u64::from(memory.touched()), at, len)
 }
 
 /// Whether a store of so many bytes would touch more than 65,536 pages. Pages are counted only where it could.
