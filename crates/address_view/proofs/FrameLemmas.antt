@@ -3,6 +3,7 @@ use Rattle.std.proofs.Common.{◌≡◌, ℕ, ◌+◌, ◌-◌, ◌<◌, ◌≤�
 use Rattle.std.specs.Prelude.{Option, nat_lt}
 use Rattle.std.proofs.lemmas.Bool.Decides.{nat_tests}
 use Rattle.std.proofs.lemmas.List.{drop_more}
+use Rattle.uh_base.specs.Limits.{frame_limit}
 use Rattle.guest_memory.specs.Lists.{count_true}
 use Rattle.guest_memory.specs.Pages.{Pages}
 use Rattle.address_view.specs.declared.frames.ByteRange.{ByteRange}
@@ -26,7 +27,7 @@ ranges_most see base marks (range ∷ ranges) =
     let a = marked_most see base marks range.at range.len in let b = ranges_most see base (marked see base marks range.at range.len) ranges in omega (arith, a, b)
 
 -- so few bytes that their pages have frames
-pub few_ranges : (see : ℕ → Option ℕ) (m : Pages) (ranges : List ByteRange) → count_true m.touched + total_length ranges ≤ 65536 → lacks_ranges see m ranges ≡ false
+pub few_ranges : (see : ℕ → Option ℕ) (m : Pages) (ranges : List ByteRange) → count_true m.touched + total_length ranges ≤ frame_limit → lacks_ranges see m ranges ≡ false
 few_ranges see m ranges h = let a = ranges_most see m.base m.touched ranges in grind (arith, nat_tests)
 
 -- a range more is marked
@@ -47,13 +48,13 @@ marked_later see base marks range ranges = refl
 pub ranges_suffice : RangesSuffice
 ranges_suffice see m range ranges h =
     let later = marked_later see m.base m.touched range ranges in
-    let rest : nat_lt 65536 (count_true (marked_ranges see m.base (marked see m.base m.touched range.at range.len) ranges)) ≡ false = ap (λ marks. nat_lt 65536 (count_true marks)) (sym later) ∙ h in
+    let rest : nat_lt frame_limit (count_true (marked_ranges see m.base (marked see m.base m.touched range.at range.len) ranges)) ≡ false = ap (λ marks. nat_lt frame_limit (count_true marks)) (sym later) ∙ h in
     let less = ranges_less see m.base (marked see m.base m.touched range.at range.len) ranges in
     record {
       first = grind (arith, nat_tests);
       touched = rest;
       stored = λ bytes n.
-          ap (λ marks. nat_lt 65536 (count_true (marked_ranges see (stored see m range.at bytes).base marks ranges))) (marks_stored see m range.at bytes ∙ ap (λ k. marked see m.base m.touched range.at k) n)
-          ∙ ap (λ base. nat_lt 65536 (count_true (marked_ranges see base (marked see m.base m.touched range.at range.len) ranges))) (base_stored see m range.at bytes)
+          ap (λ marks. nat_lt frame_limit (count_true (marked_ranges see (stored see m range.at bytes).base marks ranges))) (marks_stored see m range.at bytes ∙ ap (λ k. marked see m.base m.touched range.at k) n)
+          ∙ ap (λ base. nat_lt frame_limit (count_true (marked_ranges see base (marked see m.base m.touched range.at range.len) ranges))) (base_stored see m range.at bytes)
           ∙ rest;
     }

@@ -3,6 +3,7 @@ use Rattle.std.proofs.Common.{◌≡◌, ℕ, ◌+◌, ◌-◌, ◌/◌, ◌<◌
 use Rattle.std.specs.Prelude.{Option, Some, None, slice_set, slice_get}
 use Rattle.std.proofs.lemmas.Bool.Decides.{nat_tests}
 use Rattle.uh_base.specs.Bytes.{next, first_refused}
+use Rattle.uh_base.specs.Limits.{frame_limit}
 use Rattle.guest_memory.specs.Lists.{count_true}
 use Rattle.guest_memory.specs.Pages.{Pages, is_touched, or_false}
 use Rattle.guest_memory.specs.Changes.{TouchedBesides}
@@ -99,11 +100,11 @@ touching_allows see m0 m at len here n rest e t =
 
 -- what the touch of a page asks for
 pub touching_asks : (see : ℕ → Option ℕ) (m0 m : Pages) (at len here n rest : ℕ) → n ≡ suc rest → lacks_seen see m0 at len ≡ false → Touching see m0 m at len here n
-    → (is_seen see m here ≡ true) × (count_true (mark_seen m.base m.touched (see here)) ≤ 65536)
+    → (is_seen see m here ≡ true) × (count_true (mark_seen m.base m.touched (see here)) ≤ frame_limit)
 touching_asks see m0 m at len here n rest e few t =
     let b : m.base ≡ m0.base = ap (λ (k : Pages). k.base) t.same in
     let less = marked_less see m0.base (mark_seen m0.base m.touched (see here)) (next here) rest in
-    let total : count_true (marked see m0.base m0.touched at len) ≤ 65536 = grind (arith, nat_tests) in
+    let total : count_true (marked see m0.base m0.touched at len) ≤ frame_limit = grind (arith, nat_tests) in
     let whole = ap count_true (sym (marked_step see m0.base m.touched here n rest e) ∙ t.rest) in
     (touching_allows see m0 m at len here n rest e t, rw b (omega arith))
 

@@ -3,6 +3,7 @@ use Rattle.std.proofs.Common.{◌≡◌, ℕ, ◌+◌, ◌-◌, ◌/◌, ◌<◌
 use Rattle.std.specs.Prelude.{◌&&◌, if◌then◌else◌, Option, Some, None, slice_set, slice_get}
 use Rattle.std.proofs.lemmas.Bool.Decides.{nat_tests}
 use Rattle.uh_base.specs.Bytes.{next, first_refused}
+use Rattle.uh_base.specs.Limits.{frame_limit}
 use Rattle.guest_memory.specs.Lists.{count_true}
 use Rattle.guest_memory.specs.Pages.{Pages, holds, page_of, or_false}
 use Rattle.address_view.proofs.MemoryLemmas.{set_again}
@@ -161,10 +162,10 @@ count_length (true ∷ marks) = let h = count_length marks in omega arith
 count_length (false ∷ marks) = let h = count_length marks in omega arith
 
 -- whether frames lack
-pub room_for : (see : ℕ → Option ℕ) (m : Pages) (at n : ℕ) → count_true m.touched + n ≤ 65536 → lacks_seen see m at n ≡ false
+pub room_for : (see : ℕ → Option ℕ) (m : Pages) (at n : ℕ) → count_true m.touched + n ≤ frame_limit → lacks_seen see m at n ≡ false
 room_for see m at n h = let a = marked_most see m.base m.touched at n in grind (arith, nat_tests)
 
-pub no_more : (see : ℕ → Option ℕ) (m : Pages) (at n : ℕ) → count_true m.touched ≤ 65536 → all_touched see m at n ≡ true → lacks_seen see m at n ≡ false
+pub no_more : (see : ℕ → Option ℕ) (m : Pages) (at n : ℕ) → count_true m.touched ≤ frame_limit → all_touched see m at n ≡ true → lacks_seen see m at n ≡ false
 no_more see m at n few all = let a = ap count_true (same_marked see m.base m.touched at n all) in grind (arith, nat_tests)
 
 -- one address of a store

@@ -3,6 +3,7 @@ use Rattle.std.proofs.Common.{◌≡◌, ℕ, ◌+◌, ◌*◌, ◌<◌, ◌^◌
 use Rattle.std.specs.Prelude.{◌&&◌, ◌↔◌, nat_lt, is_none, Option, Some, None}
 use Rattle.uh_base.specs.Bytes.{next, first_refused, number_at}
 use Rattle.rv_step.specs.declared.bus.Access.{Access}
+use Rattle.uh_base.specs.Limits.{frame_limit}
 use Rattle.guest_memory.specs.Lists.{count_true}
 use Rattle.guest_memory.specs.Runs.{bytes_from}
 use Rattle.guest_memory.specs.Pages.{Pages, bytes_of, rights_at, holds}
@@ -85,7 +86,7 @@ places_decide see other m at there n low low2 same = record {
   allowed = λ kind. allowed_alike see other m kind at there n low low2 same;
   seen = tests_alike see other (λ o. at_place false (holds m) o) at there n low low2 same;
   after = λ bytes e. stores_alike see other m at there bytes low low2 (λ i h. same i (omega (arith, h, e)));
-  lacks = ap (λ marks. nat_lt 65536 (count_true marks)) (marks_alike see other m.base m.touched at there n low low2 same);
+  lacks = ap (λ marks. nat_lt frame_limit (count_true marks)) (marks_alike see other m.base m.touched at there n low low2 same);
   touched = all_alike see other m.base m.touched at there n low low2 same;
 }
 

@@ -7,6 +7,7 @@ use Rattle.std.specs.Prelude.{IsTrue}
 use Rattle.uh_base.specs.Bytes.{is_width, next, first_refused, number_at, loaded}
 use Rattle.uh_base.specs.LittleEndian.{low_bytes}
 use Rattle.rv_step.specs.declared.bus.Access.{Access}
+use Rattle.uh_base.specs.Limits.{frame_limit}
 use Rattle.guest_memory.specs.Lists.{count_true}
 use Rattle.guest_memory.specs.Pages.{Pages, Whole, bytes_of, rights_at, InPage, page_of, is_touched}
 use Rattle.guest_memory.specs.Changes.{put_to, put_number, lacks, TouchedBesides}
@@ -94,7 +95,7 @@ page_in m place width p some = let low = p.low in let high = p.high in omega ari
 pub lacks_is : (see : ℕ → Option ℕ) (m : Pages) (kind : Access) (at width place : ℕ) → Whole m → 1 ≤ width → OnePage see m kind at width place → lacks_seen see m at width ≡ lacks m (page_of m place)
 lacks_is see m kind at zero place whole some one = absurd (omega arith)
 lacks_is see m kind at (suc n) place whole some one =
-    ap (λ marks. nat_lt 65536 (count_true marks)) (run_marked see m.base at place n m.touched one.seen one.end one.page.low whole.base_even one.page.one)
+    ap (λ marks. nat_lt frame_limit (count_true marks)) (run_marked see m.base at place n m.touched one.seen one.end one.page.low whole.base_even one.page.one)
     ∙ too_many m (page_of m place) whole (page_in m place (suc n) one.page some)
 
 pub unsure : (see : ℕ → Option ℕ) (m : Pages) (kind : Access) (at width place : ℕ) → 1 ≤ width → OnePage see m kind at width place → is_touched m (page_of m place) ≡ false → all_touched see m at width ≡ false

@@ -1,6 +1,7 @@
 -- What stores make of memory, where `see` is the place that each address shows.
 use Rattle.std.specs.Prelude.{ℕ, zero, suc, ◌≡◌, ◌-◌, ◌/◌, ◌<◌, ◌&&◌, nat_lt, Bool, true, false, List, [], ◌∷◌, Option, Some, None, Result, Ok, Err, slice_get, slice_set}
 use Rattle.uh_base.specs.Bytes.{next, first_refused}
+use Rattle.uh_base.specs.Limits.{frame_limit}
 use Rattle.uh_base.specs.LittleEndian.{low_bytes}
 use Rattle.guest_memory.specs.Lists.{count_true}
 use Rattle.guest_memory.specs.Pages.{Pages, or_false}
@@ -31,9 +32,9 @@ unfoldable pub marked : (ℕ → Option ℕ) → ℕ → List Bool → ℕ → �
 marked see base marks at zero = marks
 marked see base marks at (suc n) = marked see base (mark_seen base marks (see at)) (next at) n
 
--- whether a store of so many bytes would touch more than 65,536 pages
+-- whether a store of so many bytes would touch more pages than there are frames
 abbrev pub lacks_seen : (ℕ → Option ℕ) → Pages → ℕ → ℕ → Bool
-lacks_seen see m at n = nat_lt 65536 (count_true (marked see m.base m.touched at n))
+lacks_seen see m at n = nat_lt frame_limit (count_true (marked see m.base m.touched at n))
 
 abbrev pub is_marked : ℕ → List Bool → Option ℕ → Bool
 is_marked base marks None = true

@@ -6,9 +6,10 @@ ghost use Rattle.guest_memory.specs.Lists.{count_true};
 ghost use Rattle.address_view.specs.Windows.{see};
 ghost use Rattle.address_view.specs.Ranges.{RangesSeen, marked_ranges, lacks_ranges, total_length};
 
-use crate::store::{FRAMES, count_marks, no_marks};
+use crate::store::{count_marks, no_marks};
 use crate::view::View;
 use guest_memory::GuestMemory;
+use uh_base::FRAME_LIMIT;
 
 /// Addresses of a guest.
 #[derive(Clone, Copy, Debug, PartialEq, Eq, Drop)]
@@ -19,7 +20,7 @@ pub struct ByteRange {
     pub len: u64,
 }
 
-/// Whether stores into all of these ranges, each of which is seen, would touch more than 65,536 pages. A page that
+/// Whether stores into all of these ranges, each of which is seen, would touch more pages than `FRAME_LIMIT`. A page that
 /// several ranges meet counts once. Nothing is written and no memory is taken.
 #[tactic(auto, using(crate::proofs::FrameLemmas::few_ranges))]
 pub fn lacks_after(memory: &GuestMemory, view: &View, ranges: &[ByteRange]) -> bool
@@ -27,10 +28,10 @@ pub fn lacks_after(memory: &GuestMemory, view: &View, ranges: &[ByteRange]) -> b
     ensures { result ≡ lacks_ranges (see view.now) memory.now ranges.now }
 {
     memory.whole();
-    if are_few(ranges, FRAMES - u64::from(memory.touched())) {
+    if are_few(ranges, u64::from(FRAME_LIMIT - memory.touched())) {
         return false;
     }
-    count_after(memory, view, ranges) > FRAMES
+    count_after(memory, view, ranges) > u64::from(FRAME_LIMIT)
 }
 
 /// Whether the ranges have at most so many bytes.

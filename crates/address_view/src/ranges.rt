@@ -78,7 +78,7 @@ pub fn load_bytes(
 }
 
 /// Stores bytes from an address on, all of them or none, where `allowed` says that they may be stored.
-/// `Frames` comes where more than 65,536 pages would be touched, and `Outside` never.
+/// `Frames` comes where more pages than `FRAME_LIMIT` would be touched, and `Outside` never.
 #[tactic(auto, using(crate::proofs::StoreLaws::seen_of_allowed))]
 pub fn store_bytes(
     memory: &mut GuestMemory,
@@ -98,7 +98,7 @@ pub fn store_bytes(
 }
 
 /// Stores bytes from an address on, all of them or none, where `is_seen` says that they show memory, whatever the
-/// rights there. `Frames` comes where more than 65,536 pages would be touched, and `Outside` never.
+/// rights there. `Frames` comes where more pages than `FRAME_LIMIT` would be touched, and `Outside` never.
 #[tactic(auto, using(crate::proofs::StoreLaws::bytes_of_stored, crate::proofs::StoreLaws::bytes_of_kept, crate::proofs::StoreLaws::rights_of_kept, crate::proofs::StoreLaws::all_seen))]
 pub fn put_bytes(memory: &mut GuestMemory, view: &View, at: u64, bytes: &[u8]) -> Result<(), PutEnd>
     requires { all_pass (is_seen (see view.now) memory.old) at (length bytes.now) ≡ true }

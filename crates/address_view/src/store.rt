@@ -4,6 +4,7 @@
 ghost use Rattle.std.specs.Prelude.{◌≡◌, ◌<◌, ◌≤◌, ◌+◌, ◌^◌, ℕ, true, false, IsTrue, IfOk, OnOk, OnErr, Ok, Err, None, length, slice_get};
 ghost use Rattle.rv_step.specs.declared.bus.Access.{Access};
 ghost use Rattle.uh_base.specs.Bytes.{is_width, first_refused};
+ghost use Rattle.uh_base.specs.Limits.{frame_limit};
 ghost use Rattle.rv_step.specs.Stores.{StoreEnds, StoredIn};
 ghost use Rattle.guest_memory.specs.Lists.{count_true};
 ghost use Rattle.guest_memory.specs.Pages.{bytes_of, rights_at};
@@ -17,10 +18,7 @@ use crate::view::View;
 use guest_memory::{GuestMemory, PutEnd};
 use rv_step::{Access, BusEnd};
 use std::alloc::AllocError;
-use uh_base::write_number;
-
-/// The most pages that are touched at one time.
-pub(crate) const FRAMES: u64 = 65536;
+use uh_base::{FRAME_LIMIT, write_number};
 
 /// The most pages that a memory has.
 const MOST_PAGES: usize = 1048576;
@@ -131,26 +129,26 @@ fn count_after(memory: &GuestMemory, view: &View, at: u64, len: u64) -> u64
     count_marks(memory, view, marks, u64::from(memory.touched()), at, len)
 }
 
-/// Whether a store of so many bytes would touch more than 65,536 pages. Pages are counted only where it could.
+/// Whether a store of so many bytes would touch more pages than there are frames. Pages are counted only where it could.
 #[tactic(auto, using(crate::proofs::MarkedLemmas::room_for, crate::proofs::MarkedLemmas::no_more))]
 fn lacks_frames(memory: &GuestMemory, view: &View, at: u64, len: u64) -> bool
     requires { AllSeen (see view.now) memory.now at len }
     ensures { result ≡ lacks_seen (see view.now) memory.now at len }
 {
     memory.whole();
-    if len <= FRAMES - u64::from(memory.touched()) {
+    if len <= u64::from(FRAME_LIMIT - memory.touched()) {
         return false;
     }
     if are_all_touched(memory, view, at, len) {
         return false;
     }
-    count_after(memory, view, at, len) > FRAMES
+    count_after(memory, view, at, len) > u64::from(FRAME_LIMIT)
 }
 
 /// Touches the page of the place that an address shows.
 fn touch_at(memory: &mut GuestMemory, view: &View, at: u64) -> Result<(), AllocError>
     requires allowed { is_seen (see view.now) memory.old at ≡ true }
-    requires few { count_true (mark_seen memory.old.base memory.old.touched (see view.now at)) ≤ 65536 }
+    requires few { count_true (mark_seen memory.old.base memory.old.touched (see view.now at)) ≤ frame_limit }
     ensures ok { OnOk result (memory.new ≡ record memory.old { touched = mark_seen memory.old.base memory.old.touched (see view.now at) }) }
     ensures err { OnErr result ((is_marked memory.old.base memory.old.touched (see view.now at) ≡ false) × TouchedBesides memory.old memory.new) }
 {

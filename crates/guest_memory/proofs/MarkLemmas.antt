@@ -3,6 +3,7 @@ use Rattle.std.proofs.Common.{◌≡◌, ◌≢◌, ℕ, ◌+◌, ◌<◌, Bool,
 use Rattle.std.specs.Prelude.{◌==◌, ◌&&◌, nat_lt, slice_get}
 use Rattle.std.proofs.lemmas.Grind.{common_steps}
 use Rattle.std.proofs.lemmas.Bool.Decides.{nat_tests}
+use Rattle.uh_base.specs.Limits.{frame_limit}
 use Rattle.guest_memory.specs.Lists.{count_true}
 use Rattle.guest_memory.specs.Pages.{Pages, Whole, is_touched, or_false}
 use Rattle.guest_memory.specs.Changes.{touch, lacks}
@@ -33,10 +34,10 @@ set_twice (mark ∷ marks) (suc i) = ap (λ ms. mark ∷ ms) (set_twice marks i)
 pub touched_already : (m : Pages) (page : ℕ) → is_touched m page ≡ true → (lacks m page ≡ false) × (m ≡ touch m page)
 touched_already m page e = (rw e refl, ap (λ marks. record m { touched = marks }) (sym (set_again m.touched page e)))
 
-pub lacks_at : (m : Pages) (page count : ℕ) → is_touched m page ≡ false → count ≡ count_true m.touched → count ≡ 65536 → lacks m page ≡ true
-lacks_at m page count e c f = let g : count_true m.touched ≡ 65536 = cc in rw (e, g) refl
+pub lacks_at : (m : Pages) (page count : ℕ) → is_touched m page ≡ false → count ≡ count_true m.touched → count ≡ frame_limit → lacks m page ≡ true
+lacks_at m page count e c f = let g : count_true m.touched ≡ frame_limit = cc in rw (e, g) refl
 
-pub whole_touch : (m now : Pages) (page count : ℕ) → m ≡ now → Whole m → page < now.pages → is_touched now page ≡ false → count ≡ count_true m.touched → count ≢ 65536
+pub whole_touch : (m now : Pages) (page count : ℕ) → m ≡ now → Whole m → page < now.pages → is_touched now page ≡ false → count ≡ count_true m.touched → count ≢ frame_limit
     → Whole (touch m page) × (count + 1 ≡ count_true (slice_set m.touched page true))
 whole_touch m now page count same whole h e c n =
     let p : page < m.pages = rw same h in
@@ -63,12 +64,12 @@ count_by_mark : (marks : List Bool) (i : ℕ) → i < length marks → (b : Bool
 count_by_mark marks i h true e = ap count_true (set_again marks i e)
 count_by_mark marks i h false e = count_set marks i h e
 
-too_many_by : (m : Pages) (page : ℕ) → Whole m → page < m.pages → (b : Bool) → is_touched m page ≡ b → nat_lt 65536 (count_true (slice_set m.touched page true)) ≡ (not b && count_true m.touched == 65536)
+too_many_by : (m : Pages) (page : ℕ) → Whole m → page < m.pages → (b : Bool) → is_touched m page ≡ b → nat_lt frame_limit (count_true (slice_set m.touched page true)) ≡ (not b && count_true m.touched == frame_limit)
 too_many_by m page whole h true e =
     let few = whole.touched_few in let c = count_by_mark m.touched page (omega (arith, whole.touched_long)) true e in grind (arith, nat_tests)
 too_many_by m page whole h false e =
     let few = whole.touched_few in let c = count_by_mark m.touched page (omega (arith, whole.touched_long)) false e in rw c (grind (arith, nat_tests))
 
 -- a page is lacking exactly where its touch is one too many
-pub too_many : (m : Pages) (page : ℕ) → Whole m → page < m.pages → nat_lt 65536 (count_true (slice_set m.touched page true)) ≡ lacks m page
+pub too_many : (m : Pages) (page : ℕ) → Whole m → page < m.pages → nat_lt frame_limit (count_true (slice_set m.touched page true)) ≡ lacks m page
 too_many m page whole h = too_many_by m page whole h (is_touched m page) refl

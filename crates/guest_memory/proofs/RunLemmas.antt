@@ -5,6 +5,7 @@ use Rattle.std.proofs.lemmas.Bool.Decides.{nat_tests}
 use Rattle.std.proofs.lemmas.List.{length-replicate, length-take, take_at, take-append-drop, places}
 use Rattle.std.proofs.lemmas.Option.{slice_get-get_or}
 use Rattle.std.proofs.Math.Path.{fun_ext}
+use Rattle.uh_base.specs.Limits.{frame_limit}
 use Rattle.guest_memory.specs.declared.rights.Rights.{Rights}
 use borrow.Rule.Slice.PartMut.{put_mid}
 use Rattle.guest_memory.specs.Lists.{count_true, filled}
@@ -157,7 +158,7 @@ are_there m page count h = grind (arith, nat_tests)
 
 -- new lists as long as the old ones
 pub whole_parts : (m : Pages) (bytes : List ℕ) (rights : List Rights) (marks : List Bool) → Whole m → length bytes ≡ length m.bytes → length rights ≡ length m.rights → length marks ≡ length m.touched
-    → count_true marks ≤ 65536 → Whole (record m { bytes = bytes; rights = rights; touched = marks })
+    → count_true marks ≤ frame_limit → Whole (record m { bytes = bytes; rights = rights; touched = marks })
 whole_parts m bytes rights marks whole b r t few =
     record {
       base_low = whole.base_low;

@@ -1,15 +1,16 @@
 -- What the calls of a memory make of it.
 use Rattle.std.specs.Prelude.{ℕ, zero, suc, ◌≡◌, ◌+◌, ◌-◌, ◌*◌, ◌/◌, ◌%◌, ◌<◌, ◌≤◌, ◌==◌, ◌&&◌, ◌||◌, not, nat_lt, nat_le, Bool, true, false, List, length, Result, Ok, Err, slice_set}
 use Rattle.uh_base.specs.Bytes.{next}
+use Rattle.uh_base.specs.Limits.{frame_limit}
 use Rattle.guest_memory.specs.Lists.{filled, written_over, count_true}
 use Rattle.guest_memory.specs.Pages.{Pages, holds, page_of, is_touched, all_rights, bytes_of, rights_at, touched_at}
 use Rattle.guest_memory.specs.declared.rights.Rights.{Rights}
 use Rattle.guest_memory.specs.declared.rights.PutEnd.{PutEnd}
 use Rattle.guest_memory.specs.declared.rights.PutEnd.TheVariants.{Outside, Frames, Memory}
 
--- 65,536 pages are touched, and this one isn't
+-- as many pages are touched as may be, and this one isn't
 abbrev pub lacks : Pages → ℕ → Bool
-lacks m page = not (is_touched m page) && count_true m.touched == 65536
+lacks m page = not (is_touched m page) && count_true m.touched == frame_limit
 
 abbrev pub touch : Pages → ℕ → Pages
 touch m page = record m { touched = slice_set m.touched page true }
@@ -79,12 +80,12 @@ pub record TouchedBesides (old new : Pages) : Type 0 where
 -- A reserve that ends so leads from old to new.
 abbrev pub ReserveGives : {X : Type 0} → Result X PutEnd → Pages → Pages → ℕ → ℕ → Type 0
 ReserveGives (Ok done) old new page count =
-    (has_pages old page count ≡ true) × (count_true (reserved old page count).touched ≤ 65536) × (new ≡ reserved old page count)
+    (has_pages old page count ≡ true) × (count_true (reserved old page count).touched ≤ frame_limit) × (new ≡ reserved old page count)
 ReserveGives (Err Outside) old new page count = (has_pages old page count ≡ false) × (new ≡ old)
 ReserveGives (Err Frames) old new page count =
-    (has_pages old page count ≡ true) × (65536 < count_true (reserved old page count).touched) × (new ≡ old)
+    (has_pages old page count ≡ true) × (frame_limit < count_true (reserved old page count).touched) × (new ≡ old)
 ReserveGives (Err Memory) old new page count =
-    (has_pages old page count ≡ true) × (count_true (reserved old page count).touched ≤ 65536) × SomeUntouched old page count × TouchedBesides old new
+    (has_pages old page count ≡ true) × (count_true (reserved old page count).touched ≤ frame_limit) × SomeUntouched old page count × TouchedBesides old new
 
 -- the memory with bytes written over whole pages from a page on, which are touched
 abbrev pub written_pages : Pages → ℕ → List ℕ → Pages
@@ -92,11 +93,11 @@ written_pages m page bytes = record (reserved m page (length bytes / 4096)) { by
 
 -- A write of whole pages that ends so leads from old to new.
 abbrev pub PagesGive : {X : Type 0} → Result X PutEnd → Pages → Pages → ℕ → List ℕ → Type 0
-PagesGive (Ok done) old new page bytes = (count_true (reserved old page (length bytes / 4096)).touched ≤ 65536) × (new ≡ written_pages old page bytes)
+PagesGive (Ok done) old new page bytes = (count_true (reserved old page (length bytes / 4096)).touched ≤ frame_limit) × (new ≡ written_pages old page bytes)
 PagesGive (Err Outside) old new page bytes = ⊥
-PagesGive (Err Frames) old new page bytes = (65536 < count_true (reserved old page (length bytes / 4096)).touched) × (new ≡ old)
+PagesGive (Err Frames) old new page bytes = (frame_limit < count_true (reserved old page (length bytes / 4096)).touched) × (new ≡ old)
 PagesGive (Err Memory) old new page bytes =
-    (count_true (reserved old page (length bytes / 4096)).touched ≤ 65536) × SomeUntouched old page (length bytes / 4096) × TouchedBesides old new
+    (count_true (reserved old page (length bytes / 4096)).touched ≤ frame_limit) × SomeUntouched old page (length bytes / 4096) × TouchedBesides old new
 
 -- the memory with zeros, all rights and no mark at so many pages, from a page on
 abbrev pub cleared : Pages → ℕ → ℕ → Pages

@@ -1,5 +1,6 @@
 -- The memory of a guest: its bytes, and the rights and the mark of each page.
 use Rattle.std.specs.Prelude.{ℕ, ◌≡◌, ◌+◌, ◌-◌, ◌*◌, ◌/◌, ◌%◌, ◌^◌, ◌≤◌, ◌==◌, ◌&&◌, nat_lt, nat_le, Bool, true, false, List, length, Option, Some, None, if◌then◌else◌, slice_index, slice_get}
+use Rattle.uh_base.specs.Limits.{frame_limit}
 use Rattle.guest_memory.specs.Lists.{count_true}
 use Rattle.guest_memory.specs.declared.rights.Rights.{Rights}
 
@@ -21,7 +22,7 @@ pub record Whole (m : Pages) : Type 0 where
   pub bytes_long : length m.bytes ≡ 4096 * m.pages
   pub rights_long : length m.rights ≡ m.pages
   pub touched_long : length m.touched ≡ m.pages
-  pub touched_few : count_true m.touched ≤ 65536
+  pub touched_few : count_true m.touched ≤ frame_limit
 
 abbrev pub all_rights : Rights
 all_rights = record { read = true; write = true; exec = true }

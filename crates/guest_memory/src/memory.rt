@@ -12,9 +12,7 @@ use crate::parts::{bytes_are_bytes, count_part, fill, number_of, write_low};
 use crate::rights::{PutEnd, Rights};
 use std::alloc::{AllocError, Global};
 use std::marker::Model;
-
-/// The most pages that are touched at one time: 256 MiB.
-const FRAMES: u32 = 65536;
+use uh_base::FRAME_LIMIT;
 
 /// The bytes of a page.
 const PAGE: usize = 4096;
@@ -181,7 +179,7 @@ impl GuestMemory {
         if self.is_touched(page) {
             return Ok(());
         }
-        if self.touched() == FRAMES {
+        if self.touched() == FRAME_LIMIT {
             return Err(PutEnd::Frames);
         }
         self.touched[page as usize] = true;
@@ -286,7 +284,7 @@ impl GuestMemory {
         let first = page as usize;
         let before = count_part(&self.touched, first, count as usize);
         let after = self.count - before + count;
-        if after > FRAMES {
+        if after > FRAME_LIMIT {
             return Err(PutEnd::Frames);
         }
         fill(&mut self.touched, first, count as usize, true);

@@ -2,6 +2,7 @@
 use Rattle.std.specs.Prelude.{ℕ, ◌≡◌, ◌≤◌, ◌<◌, List, Result, Ok, Err}
 use Rattle.page_alloc.specs.declared.layout.Layout.{Layout}
 use Rattle.page_alloc.specs.Layout.{IsLayout}
+use Rattle.uh_base.specs.Limits.{frame_limit}
 use Rattle.guest_memory.specs.Lists.{count_true}
 use Rattle.guest_memory.specs.Pages.{Pages, page_of, bytes_of}
 use Rattle.guest_memory.specs.Runs.{bytes_from}
@@ -31,16 +32,16 @@ built layout m = put_part (put_part (with_room layout m) layout.boot (boot_page 
 -- Why there is no room for the tables, which leaves all bytes and rights as they were.
 abbrev pub Refuses : PutEnd → Layout → Pages → Pages → Type 0
 Refuses Outside layout old new = ⊥
-Refuses Frames layout old new = (65536 < count_true (with_room layout old).touched) × (new ≡ old)
+Refuses Frames layout old new = (frame_limit < count_true (with_room layout old).touched) × (new ≡ old)
 Refuses Memory layout old new =
-    (count_true (with_room layout old).touched ≤ 65536) × SomeUntouched old (page_of old layout.boot) 2 × TouchedBesides old new
+    (count_true (with_room layout old).touched ≤ frame_limit) × SomeUntouched old (page_of old layout.boot) 2 × TouchedBesides old new
 
 -- A touch of the two pages that ends so leads from old to new.
 abbrev pub RoomGives : {X : Type 0} → Result X PutEnd → Layout → Pages → Pages → Type 0
-RoomGives (Ok done) layout old new = (count_true (with_room layout old).touched ≤ 65536) × (new ≡ with_room layout old)
+RoomGives (Ok done) layout old new = (count_true (with_room layout old).touched ≤ frame_limit) × (new ≡ with_room layout old)
 RoomGives (Err end) layout old new = Refuses end layout old new
 
 -- A build that ends so leads from old to new.
 abbrev pub BuildGives : {X : Type 0} → Result X PutEnd → Layout → Pages → Pages → Type 0
-BuildGives (Ok done) layout old new = (count_true (with_room layout old).touched ≤ 65536) × (new ≡ built layout old)
+BuildGives (Ok done) layout old new = (count_true (with_room layout old).touched ≤ frame_limit) × (new ≡ built layout old)
 BuildGives (Err end) layout old new = Refuses end layout old new

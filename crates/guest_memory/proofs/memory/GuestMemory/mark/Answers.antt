@@ -9,8 +9,8 @@ overflow_sub-after c =
     let b = c.count_part-before.ensures ∙ ap (λ (ms : List Bool). count_true (take c.args.count (drop c.args.page ms))) c.deref.ensures.value in
     omega (arith, count_in c.self.inside.touched.items c.args.page c.args.count, c.self.invariant.1)
 
-pub returns-then-after-gt-FRAMES : goal.returns-then-after-gt-FRAMES
-returns-then-after-gt-FRAMES c =
+pub returns-then-after-gt-FRAME_LIMIT : goal.returns-then-after-gt-FRAME_LIMIT
+returns-then-after-gt-FRAME_LIMIT c =
     let b = c.count_part-before.ensures ∙ ap (λ (ms : List Bool). count_true (take c.args.count (drop c.args.page ms))) c.deref.ensures.value in
     let t = ap (λ (m : Pages). count_true (filled m.touched c.args.page c.args.count true)) c.self.view_is in (
       are_there c.args.self.now c.args.page c.args.count c.requires,
