@@ -11,3 +11,4 @@ pub mod BaseLemmas
 pub mod TouchLaws
 pub mod PlaceLaws
 pub mod FrameLemmas
+pub mod RangeMarks

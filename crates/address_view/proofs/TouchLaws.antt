@@ -121,7 +121,7 @@ marked_first : (see : ℕ → Option ℕ) (m : Pages) (at p n : ℕ) → see at 
 unfolding marked
 marked_first see m at p n e = ap (λ o. marked see m.base (mark_seen m.base m.touched o) (next at) n) e
 
-marked_there : (see : ℕ → Option ℕ) (m : Pages) (at n place : ℕ) → MarksArePut → at < 2 ^ 64 → m.base % 4096 ≡ 0 → length m.touched ≡ m.pages → AllSeen see m at n → Marks see m at n place
+pub marked_there : (see : ℕ → Option ℕ) (m : Pages) (at n place : ℕ) → MarksArePut → at < 2 ^ 64 → m.base % 4096 ≡ 0 → length m.touched ≡ m.pages → AllSeen see m at n → Marks see m at n place
 marked_there see m at zero place put low even long ok = none_marked see m at place
 marked_there see m at (suc n) place put low even long ok =
     let p = place_of see m at n ok in

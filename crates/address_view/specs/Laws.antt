@@ -1,5 +1,5 @@
 -- Laws of loads and stores, where `see` is the place that each address shows.
-use Rattle.std.specs.Prelude.{ℕ, ◌≡◌, ◌≢◌, ◌<◌, ◌^◌, ◌↔◌, ◌⊎◌, Bool, true, false, List, ◌∷◌, length, Option, Some}
+use Rattle.std.specs.Prelude.{ℕ, ◌≡◌, ◌≢◌, ◌<◌, ◌^◌, ◌↔◌, ◌⊎◌, Bool, true, false, List, ◌∷◌, length, slice_get, Option, Some, All}
 use Rattle.uh_base.specs.Bytes.{number_at, behind}
 use Rattle.rv_step.specs.declared.bus.Access.{Access}
 use Rattle.guest_memory.specs.Runs.{bytes_from}
@@ -8,7 +8,7 @@ use Rattle.address_view.specs.Windows.{seen_bytes}
 use Rattle.address_view.specs.Seen.{all_pass, view_allows, is_seen}
 use Rattle.address_view.specs.Stored.{stored, marked, lacks_seen, all_touched}
 use Rattle.address_view.specs.declared.frames.ByteRange.{ByteRange}
-use Rattle.address_view.specs.Ranges.{lacks_ranges}
+use Rattle.address_view.specs.Ranges.{RangesSeen, marked_ranges, lacks_ranges}
 
 -- so many addresses, from one on, all pass a test
 abbrev pub AllPass : (ℕ → Bool) → ℕ → ℕ → Type 0
@@ -72,3 +72,12 @@ pub record Suffice (see : ℕ → Option ℕ) (m : Pages) (range : ByteRange) (r
 
 abbrev pub RangesSuffice : Type 0
 RangesSuffice = (see : ℕ → Option ℕ) (m : Pages) (range : ByteRange) (ranges : List ByteRange) → lacks_ranges see m (range ∷ ranges) ≡ false → Suffice see m range ranges
+
+-- an address of one of the ranges shows the page of a place
+abbrev pub RangesShow : (ℕ → Option ℕ) → List ByteRange → ℕ → Type 0
+RangesShow see ranges place = (i : ℕ) × (range : ByteRange) × (slice_get ranges i ≡ Some range) × ShowsPage see range.at range.len place
+
+-- with the marks of several ranges a page is touched exactly where it was or an address of one of them shows it
+abbrev pub RangesAreMarked : Type 0
+RangesAreMarked = (see : ℕ → Option ℕ) (m : Pages) (ranges : List ByteRange) (place : ℕ) → All (λ (range : ByteRange). range.at < 2 ^ 64) ranges → Whole m → RangesSeen see m ranges
+    → (touched_at (record m { touched = marked_ranges see m.base m.touched ranges }) place ≡ true) ↔ ((touched_at m place ≡ true) ⊎ RangesShow see ranges place)

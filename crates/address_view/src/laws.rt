@@ -9,7 +9,7 @@ ghost use Rattle.rv_step.specs.declared.bus.Access.{Access as AnyAccess};
 ghost use Rattle.address_view.specs.declared.view.Window.{Window as AnyWindow};
 ghost use Rattle.address_view.specs.Windows.{AreWindows, ShowsOnce, see, shown_at, seen_bytes};
 ghost use Rattle.address_view.specs.Seen.{all_pass, view_allows, is_seen};
-ghost use Rattle.address_view.specs.Laws.{AllPass, PlacesDecide, OthersStay, TouchedSuffice, RangesSuffice, SameMarked, StoredOver};
+ghost use Rattle.address_view.specs.Laws.{AllPass, PlacesDecide, OthersStay, TouchedSuffice, RangesSuffice, RangesAreMarked, SameMarked, StoredOver};
 
 use guest_memory::{bytes_are_put, marks_are_put};
 
@@ -72,3 +72,11 @@ pub fn touched_pages_suffice()
 pub fn ranges_suffice()
     ensures { RangesSuffice }
 {}
+
+/// The pages that `lacks_after` counts are those that are touched, and those that an address of one of the ranges
+/// shows, each once.
+pub fn ranges_are_marked()
+    ensures { RangesAreMarked }
+{
+    marks_are_put();
+}
