@@ -1,8 +1,7 @@
 -- Touched marks.
-use Rattle.std.proofs.Common.{◌≡◌, ◌≢◌, ℕ, ◌+◌, ◌<◌, Bool, true, false, List, length, refl, sym, ap, arith, slice_set, cond, replicate, [], ◌∷◌, zero, suc, not}
-use Rattle.std.specs.Prelude.{◌==◌, ◌&&◌, nat_lt, slice_get}
+use Rattle.std.proofs.Common.{◌≡◌, ◌≢◌, ℕ, ◌+◌, ◌<◌, Bool, true, false, List, length, refl, sym, ap, arith, slice_set, replicate, [], ◌∷◌, zero, suc}
+use Rattle.std.specs.Prelude.{slice_get}
 use Rattle.std.proofs.lemmas.Grind.{common_steps}
-use Rattle.std.proofs.lemmas.Bool.Decides.{nat_tests}
 use Rattle.uh_base.specs.Limits.{frame_limit}
 use Rattle.guest_memory.specs.Lists.{count_true}
 use Rattle.guest_memory.specs.Pages.{Pages, Whole, is_touched, or_false}
@@ -59,17 +58,3 @@ whole_touch m now page count same whole h e c n =
       },
       omega arith,
     )
-
-count_by_mark : (marks : List Bool) (i : ℕ) → i < length marks → (b : Bool) → or_false (slice_get marks i) ≡ b → count_true (slice_set marks i true) ≡ cond b (count_true marks) (count_true marks + 1)
-count_by_mark marks i h true e = ap count_true (set_again marks i e)
-count_by_mark marks i h false e = count_set marks i h e
-
-too_many_by : (m : Pages) (page : ℕ) → Whole m → page < m.pages → (b : Bool) → is_touched m page ≡ b → nat_lt frame_limit (count_true (slice_set m.touched page true)) ≡ (not b && count_true m.touched == frame_limit)
-too_many_by m page whole h true e =
-    let few = whole.touched_few in let c = count_by_mark m.touched page (omega (arith, whole.touched_long)) true e in grind (arith, nat_tests)
-too_many_by m page whole h false e =
-    let few = whole.touched_few in let c = count_by_mark m.touched page (omega (arith, whole.touched_long)) false e in rw c (grind (arith, nat_tests))
-
--- a page is lacking exactly where its touch is one too many
-pub too_many : (m : Pages) (page : ℕ) → Whole m → page < m.pages → nat_lt frame_limit (count_true (slice_set m.touched page true)) ≡ lacks m page
-too_many m page whole h = too_many_by m page whole h (is_touched m page) refl
