@@ -63,11 +63,11 @@ words_move bytes moved sites displacement at are has to =
     let there = get_within sites has.0 site has.1 in
     let inside : at + 8 ≤ length bytes = rw (there.1 site) at (are.inside has.0 site there.0) in
     from_bytes moved at (sum (u64_at bytes at) displacement) (omega arith) (λ k below.
-      let covered : covers (at + k) site ≡ true = grind (arith, nat_tests) in
-      let is = found sites has.0 (at + k) site (separate sites are.apart) has.1 covered in
-      let byte : get_or moved (at + k) 0 ≡ moved_byte bytes sites displacement (at + k) = get_index moved (at + k) (moved_byte bytes sites displacement (at + k)) (to.1 (at + k) (omega (arith, to.0, inside))) in
-      let place : at + k - at ≡ k = omega arith in
-      byte ∙ rw (is, place) refl)
+    let covered : covers (at + k) site ≡ true = grind (arith, nat_tests) in
+    let is = found sites has.0 (at + k) site (separate sites are.apart) has.1 covered in
+    let byte : get_or moved (at + k) 0 ≡ moved_byte bytes sites displacement (at + k) = get_index moved (at + k) (moved_byte bytes sites displacement (at + k)) (to.1 (at + k) (omega (arith, to.0, inside))) in
+    let place : at + k - at ≡ k = omega arith in
+    byte ∙ rw (is, place) refl)
 
 pub words_move_twice : WordsMoveTwice
 words_move_twice bytes moved again sites one other at are has to more =
