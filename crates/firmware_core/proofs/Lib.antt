@@ -1,3 +1,2 @@
-pub mod StringLemmas
 pub mod LoadLemmas
 pub mod OpeningLemmas

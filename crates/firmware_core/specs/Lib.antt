@@ -1,6 +1,4 @@
 pub mod Machines
-pub mod Strings
-pub mod Services
 pub mod Turns
 pub mod Loads
 pub mod Views

@@ -1,6 +1,6 @@
 -- One turn of the machine.
-use Rattle.std.specs.Prelude.{ℕ, ◌-◌, ◌*◌, ◌/◌, ◌%◌, ◌==◌, ◌&&◌, not, nat_le, Bool, Option, Some, None, slice_index, slice_set, if◌then◌else◌}
-use Rattle.uh_base.specs.Statuses.{unsupported}
+use Rattle.std.specs.Prelude.{ℕ, ◌+◌, ◌-◌, ◌*◌, ◌/◌, ◌%◌, ◌==◌, ◌&&◌, not, nat_le, Bool, Option, Some, None, slice_index, slice_set, if◌then◌else◌}
+use Rattle.uh_base.specs.Statuses.{success, unsupported}
 use Rattle.rv_step.specs.Exec.{Outcome, Went, Stored, Stopped, step_of}
 use Rattle.rv_step.specs.Exec as exec
 use Rattle.guest_memory.specs.Pages.{bytes_of, rights_at}
@@ -10,7 +10,7 @@ use Rattle.address_view.specs.Stored.{store_seen, lacks_seen}
 use Rattle.firmware_core.specs.declared.happened.Happened.{Happened}
 use Rattle.firmware_core.specs.declared.happened.Happened.TheVariants as happened
 use Rattle.firmware_core.specs.Machines.{State}
-use Rattle.firmware_core.specs.Services.{Served, Answers, Prints, output_string}
+use Rattle.console_services.specs.Console.{Reply, Answers, Prints, output_string, test_string, set_mode}
 
 -- what happens in a turn, and the state behind it
 pub record Turn : Type 0 where
@@ -44,7 +44,7 @@ instruction_turn s = instruction_comes_to s (step_of (view_allows (see s.view) (
 abbrev pub answered : State → ℕ → State
 answered s a0 = record s { x = slice_set s.x 10 a0; pc = slice_index s.x 1 }
 
-abbrev pub service_comes_to : State → Served → Turn
+abbrev pub service_comes_to : State → Reply → Turn
 service_comes_to s (Answers a0) = record { happened = happened.Went; state = answered s a0 }
 service_comes_to s (Prints text a0) = record { happened = happened.Printed text; state = answered s a0 }
 
@@ -52,11 +52,25 @@ service_comes_to s (Prints text a0) = record { happened = happened.Printed text;
 abbrev pub return_slot : ℕ
 return_slot = 67
 
+-- argument n of a call, from 0 on, is register 10 + n
+abbrev pub argument : State → ℕ → ℕ
+argument s n = slice_index s.x (10 + n)
+
+-- The console's services: Reset, OutputString, TestString, SetMode, SetAttribute, ClearScreen, SetCursorPosition and
+-- EnableCursor (UEFI 2.10, 12.4). Those that change what a screen shows are answered with success, and a run shows no screen.
+unfoldable pub console_reply : ℕ → State → Reply
+console_reply slot s =
+    if slot == 59 then output_string s.view s.memory (argument s 1)
+    else (if slot == 60 then Answers (test_string s.view s.memory (argument s 1))
+    else (if slot == 61 then Answers unsupported
+    else (if slot == 62 then Answers (set_mode (argument s 1))
+    else Answers success)))
+
 -- The service of a slot. A service that isn't built answers that it is unsupported.
 unfoldable pub slot_turn : ℕ → State → Turn
 slot_turn slot s =
-    if slot == 59 then service_comes_to s (output_string (slice_index s.x 11) s.view s.memory)
-    else (if slot == 67 then record { happened = happened.Returned (slice_index s.x 10); state = s }
+    if slot == 67 then record { happened = happened.Returned (argument s 0); state = s }
+    else (if nat_le 58 slot && nat_le slot 66 then service_comes_to s (console_reply slot s)
     else service_comes_to s (Answers unsupported))
 
 -- ---- the turn

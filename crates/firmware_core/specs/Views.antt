@@ -6,9 +6,6 @@ use Rattle.pe_image.specs.declared.fault.PeFault.TheVariants as pe
 use Rattle.pe_image.specs.ImageOf.{fields_of}
 use Rattle.base_reloc.specs.declared.fault.RelocFault.{RelocFault}
 use Rattle.base_reloc.specs.declared.fault.RelocFault.TheVariants as reloc
-use Rattle.firmware_core.specs.Services.{Served, Answers, Prints}
-use Rattle.firmware_core.specs.declared.service.Served as code
-use Rattle.firmware_core.specs.declared.service.Served.TheVariants as served
 use Rattle.firmware_core.specs.declared.load.Plan as loads
 use Rattle.firmware_core.specs.declared.load.Refusal.{Refusal}
 use Rattle.firmware_core.specs.declared.load.Refusal.TheVariants as refusals
@@ -16,10 +13,6 @@ use Rattle.firmware_core.specs.declared.machine.LoadedImage.{LoadedImage}
 use Rattle.firmware_core.specs.Machines.{State}
 use Rattle.firmware_core.specs.Loads.{Plan, status_of}
 use Rattle.uh_base.specs.Statuses.{load_error}
-
-abbrev pub served_by : code.Served → Served
-served_by (served.Answers a0) = Answers a0
-served_by (served.Prints text a0) = Prints text a0
 
 abbrev pub plan_by : loads.Plan → Plan
 plan_by plan = record { image = fields_of plan.image; base = plan.base; bytes = plan.bytes.items }

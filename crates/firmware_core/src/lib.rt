@@ -9,7 +9,6 @@ mod load;
 mod machine;
 mod opening;
 mod placing;
-mod service;
 
 pub use happened::Happened;
 pub use machine::{LoadedImage, Machine};

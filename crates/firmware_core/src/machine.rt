@@ -2,21 +2,21 @@
 ghost use Rattle.std.specs.Prelude.{◌≡◌, ◌≤◌, ◌<◌, ◌-◌, ◌^◌, IfOk, Some, length};
 ghost use Rattle.page_alloc.specs.Layout.{IsRam};
 ghost use Rattle.firmware_core.specs.Opening.{opened};
-ghost use Rattle.firmware_core.specs.Services.{Answers};
-ghost use Rattle.firmware_core.specs.Turns.{slot_at, answered, service_comes_to, slot_turn, instruction_turn, turn_of};
+ghost use Rattle.console_services.specs.Views.{reply_of};
+ghost use Rattle.firmware_core.specs.Turns.{slot_at, answered, service_comes_to, console_reply, slot_turn, instruction_turn, turn_of};
 ghost use Rattle.pe_image.specs.ImageOf.{fields_of};
 ghost use Rattle.pe_image.specs.Placed.{in_pages};
 ghost use Rattle.pe_image.specs.Sound.{IsImage};
 ghost use Rattle.firmware_core.specs.Loads.{LiesAt, page_count, placed_by, load_of, begun, ended};
-ghost use Rattle.firmware_core.specs.Views.{served_by, plan_by, LoadGives};
+ghost use Rattle.firmware_core.specs.Views.{plan_by, LoadGives};
 
 use crate::happened::Happened;
 use crate::instruction::instruction;
 use crate::load::{Plan, Refusal, plan_load};
 use crate::opening::put_firmware;
 use crate::placing::{layout_spreads, set_image_rights};
-use crate::service::{Served, output_string};
 use address_view::View;
+use console_services::{Reply, output_string, set_mode, test_string};
 use guest_memory::{GuestMemory, PutEnd};
 use page_alloc::Layout;
 use rv_decode::KnownWords;
@@ -115,18 +115,36 @@ impl Machine {
     }
 
     /// Gives what a service answered to its caller.
-    fn finish(&mut self, served: Served) -> Happened
-        ensures { record { happened = result; state = self.new } ≡ service_comes_to self.old (served_by served) }
+    fn finish(&mut self, reply: Reply) -> Happened
+        ensures { record { happened = result; state = self.new } ≡ service_comes_to self.old (reply_of reply) }
     {
-        match served {
-            Served::Answers(a0) => {
+        match reply {
+            Reply::Answers(a0) => {
                 self.answer(a0);
                 Happened::Went
             }
-            Served::Prints(text, a0) => {
+            Reply::Prints(text, a0) => {
                 self.answer(a0);
                 Happened::Printed(text)
             }
+        }
+    }
+
+    /// What the console's service of a slot answers.
+    #[tactic(auto, unfolding(crate::specs::Turns::console_reply))]
+    fn console_reply(&self, alloc: Global, slot: u64) -> Result<Reply, AllocError>
+        ensures { IfOk result (λ reply. reply_of reply ≡ console_reply slot self.now) }
+    {
+        let given = self.regs.x[11];
+        match slot {
+            59 => output_string(alloc, &self.view, &self.memory, given),
+            60 => {
+                let status = test_string(alloc, &self.view, &self.memory, given)?;
+                Ok(Reply::Answers(status.0))
+            }
+            61 => Ok(Reply::Answers(EfiStatus::UNSUPPORTED.0)),
+            62 => Ok(Reply::Answers(set_mode(given).0)),
+            _ => Ok(Reply::Answers(EfiStatus::SUCCESS.0)),
         }
     }
 
@@ -136,12 +154,12 @@ impl Machine {
         ensures { IfOk result (λ h. record { happened = h; state = self.new } ≡ slot_turn slot self.old) }
     {
         match slot {
-            59 => {
-                let served = output_string(alloc, self.regs.x[11], &self.view, &self.memory)?;
-                Ok(self.finish(served))
-            }
             67 => Ok(Happened::Returned(self.regs.x[10])),
-            _ => Ok(self.finish(Served::Answers(EfiStatus::UNSUPPORTED.0))),
+            58..=66 => {
+                let reply = self.console_reply(alloc, slot)?;
+                Ok(self.finish(reply))
+            }
+            _ => Ok(self.finish(Reply::Answers(EfiStatus::UNSUPPORTED.0))),
         }
     }
 

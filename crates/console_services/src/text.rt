@@ -1,11 +1,11 @@
-//! The services of the firmware.
+//! Strings that a guest gives the console.
 ghost use Rattle.std.specs.Prelude.{◌≡◌, ◌<◌, ◌≤◌, ◌-◌, ◌+◌, ◌*◌, IfOk, IfSome, Some, None, if◌then◌else◌, option_map};
 ghost use Rattle.guest_memory.specs.Pages.{bytes_of};
 ghost use Rattle.address_view.specs.Windows.{see, seen_bytes};
 ghost use Rattle.address_view.specs.Seen.{is_seen};
-ghost use Rattle.firmware_core.specs.Services.{output_string};
-ghost use Rattle.firmware_core.specs.Strings.{string_at, unit_is_seen, unit_at};
-ghost use Rattle.firmware_core.specs.Views.{served_by};
+ghost use Rattle.console_services.specs.Console.{output_string, test_string, string_given};
+ghost use Rattle.console_services.specs.Strings.{string_at, unit_is_seen, unit_at};
+ghost use Rattle.console_services.specs.Views.{reply_of};
 
 use address_view::View;
 use guest_memory::GuestMemory;
@@ -16,9 +16,9 @@ use uh_base::{EfiStatus, Text};
 /// The most units of a string, with the one of 0 that ends it.
 const UNITS: u32 = 4096;
 
-/// What a service answers.
+/// What a service of the console answers.
 #[derive(Debug, Drop)]
-pub enum Served {
+pub enum Reply {
     /// A value for a0.
     Answers(u64),
     /// A text that it prints, and a value for a0.
@@ -68,21 +68,34 @@ fn string_at(
     Ok(None)
 }
 
-/// EFI_SIMPLE_TEXT_OUTPUT_PROTOCOL.OutputString (UEFI 2.10, 12.4.3): prints the string at an address.
-#[tactic(auto, unfolding(crate::specs::Services::output_string))]
-pub fn output_string(
+/// The units of the string at an address that isn't 0.
+fn string_given(
     alloc: Global,
-    at: u64,
     view: &View,
     memory: &GuestMemory,
-) -> Result<Served, AllocError>
-    ensures { IfOk result (λ served. served_by served ≡ output_string at view.now memory.now) }
+    at: u64,
+) -> Result<Option<Vec<u16>>, AllocError>
+    ensures { IfOk result (λ units. option_map (λ list. list.items) units ≡ string_given view.now memory.now at) }
 {
     if at == 0 {
-        return Ok(Served::Answers(EfiStatus::INVALID_PARAMETER.0));
+        return Ok(None);
     }
-    match string_at(alloc, view, memory, at)? {
-        None => Ok(Served::Answers(EfiStatus::INVALID_PARAMETER.0)),
+    string_at(alloc, view, memory, at)
+}
+
+/// OutputString (UEFI 2.10, 12.4.3): prints the string at an address. Where a unit of it has no text, the status is the
+/// warning UNKNOWN_GLYPH.
+#[tactic(auto, unfolding(crate::specs::Console::output_string))]
+pub fn output_string(
+    alloc: Global,
+    view: &View,
+    memory: &GuestMemory,
+    at: u64,
+) -> Result<Reply, AllocError>
+    ensures { IfOk result (λ reply. reply_of reply ≡ output_string view.now memory.now at) }
+{
+    match string_given(alloc, view, memory, at)? {
+        None => Ok(Reply::Answers(EfiStatus::INVALID_PARAMETER.0)),
         Some(units) => {
             let (text, is_skipped) = console_text(alloc, units.as_slice())?;
             let status = if is_skipped {
@@ -90,7 +103,30 @@ pub fn output_string(
             } else {
                 EfiStatus::SUCCESS
             };
-            Ok(Served::Prints(Text::from_string(text), status.0))
+            Ok(Reply::Prints(Text::from_string(text), status.0))
+        }
+    }
+}
+
+/// TestString (UEFI 2.10, 12.4.4): the status says whether OutputString would print each unit of the string at an address.
+#[tactic(auto, unfolding(crate::specs::Console::test_string))]
+pub fn test_string(
+    alloc: Global,
+    view: &View,
+    memory: &GuestMemory,
+    at: u64,
+) -> Result<EfiStatus, AllocError>
+    ensures { IfOk result (λ status. status.0 ≡ test_string view.now memory.now at) }
+{
+    match string_given(alloc, view, memory, at)? {
+        None => Ok(EfiStatus::INVALID_PARAMETER),
+        Some(units) => {
+            let (_, is_skipped) = console_text(alloc, units.as_slice())?;
+            if is_skipped {
+                Ok(EfiStatus::UNSUPPORTED)
+            } else {
+                Ok(EfiStatus::SUCCESS)
+            }
         }
     }
 }

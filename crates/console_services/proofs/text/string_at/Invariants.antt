@@ -1,7 +1,7 @@
 use Rattle.std.proofs.Common.{◌≡◌, ◌-◌, ◌++◌, List, ℕ}
 use Rattle.std.specs.Option.{option_map}
-use Rattle.firmware_core.specs.Strings.{string_at}
-use Rattle.firmware_core.proofs.service.string_at.Given as goal
+use Rattle.console_services.specs.Strings.{string_at}
+use Rattle.console_services.proofs.text.string_at.Given as goal
 
 -- the units so far, with those that are still to come, are the string's
 abbrev pub invariant-loop-i : goal.invariant-loop-i

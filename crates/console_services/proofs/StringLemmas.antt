@@ -6,7 +6,7 @@ use Rattle.std.proofs.lemmas.Bool.Decides.{nat_tests}
 use Rattle.uh_base.specs.Bytes.{next}
 use Rattle.guest_memory.specs.Pages.{Pages}
 use Rattle.address_view.specs.declared.view.Window.{Window}
-use Rattle.firmware_core.specs.Strings.{string_at, unit_is_seen, unit_at}
+use Rattle.console_services.specs.Strings.{string_at, unit_is_seen, unit_at}
 
 abbrev pub behind : List ℕ → Option (List ℕ) → Option (List ℕ)
 behind units rest = option_map (λ (more : List ℕ). units ++ more) rest

@@ -1,6 +1,6 @@
 use Rattle.std.proofs.Common.{◌≡◌, ◌-◌, ◌+◌, zero, suc, arith, refl}
-use Rattle.firmware_core.proofs.StringLemmas.{stops, ends, goes_on, runs_out}
-use Rattle.firmware_core.proofs.service.string_at.Goals as goal
+use Rattle.console_services.proofs.StringLemmas.{stops, ends, goes_on, runs_out}
+use Rattle.console_services.proofs.text.string_at.Goals as goal
 
 pub returns-in-None : goal.returns-in-None
 returns-in-None c =
