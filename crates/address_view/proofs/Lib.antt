@@ -11,4 +11,5 @@ pub mod BaseLemmas
 pub mod TouchLaws
 pub mod PlaceLaws
 pub mod FrameLemmas
+pub mod CodeLemmas
 pub mod RangeMarks

@@ -5,7 +5,8 @@ use Rattle.rv_step.specs.declared.bus.Access.{Access}
 use Rattle.guest_memory.specs.Runs.{bytes_from}
 use Rattle.guest_memory.specs.Pages.{Pages, Whole, bytes_of, rights_at, touched_at, same_page}
 use Rattle.address_view.specs.Windows.{seen_bytes}
-use Rattle.address_view.specs.Seen.{all_pass, view_allows, is_seen}
+use Rattle.address_view.specs.Seen.{all_pass, view_allows, is_seen, IsCode}
+use Rattle.address_view.specs.declared.code.CodePage.{CodePage}
 use Rattle.address_view.specs.Stored.{stored, marked, lacks_seen, all_touched}
 use Rattle.address_view.specs.declared.frames.ByteRange.{ByteRange}
 use Rattle.address_view.specs.Ranges.{RangesSeen, marked_ranges, lacks_ranges}
@@ -72,6 +73,11 @@ pub record Suffice (see : ℕ → Option ℕ) (m : Pages) (range : ByteRange) (r
 
 abbrev pub RangesSuffice : Type 0
 RangesSuffice = (see : ℕ → Option ℕ) (m : Pages) (range : ByteRange) (ranges : List ByteRange) → lacks_ranges see m (range ∷ ranges) ≡ false → Suffice see m range ranges
+
+-- What is remembered of a page of code stays so while its addresses show the same places of the same RAM with the same
+-- rights, whatever bytes are there.
+abbrev pub CodeStays : Type 0
+CodeStays = (see : ℕ → Option ℕ) (m n : Pages) (code : CodePage) → view_allows see (rights_at n) ≡ view_allows see (rights_at m) → n.base ≡ m.base → n.pages ≡ m.pages → IsCode see m code → IsCode see n code
 
 -- an address of one of the ranges shows the page of a place
 abbrev pub RangesShow : (ℕ → Option ℕ) → List ByteRange → ℕ → Type 0

@@ -6,6 +6,7 @@ use Rattle.rv_step.specs.declared.bus.Access.TheVariants.{Load, Store, Fetch}
 use Rattle.guest_memory.specs.Pages.{Pages, holds, rights_at, InPage}
 use Rattle.guest_memory.specs.declared.rights.Rights.{Rights}
 use Rattle.address_view.specs.Windows.{at_place}
+use Rattle.address_view.specs.declared.code.CodePage.{CodePage}
 
 -- whether rights allow an access
 abbrev pub may : Access → Option Rights → Bool
@@ -33,3 +34,9 @@ pub record OnePage (see : ℕ → Option ℕ) (m : Pages) (kind : Access) (at wi
   pub place_end : place + width < 2 ^ 64
   pub page : InPage m place width
   pub allowed : (i : ℕ) → i < width → view_allows see (rights_at m) kind (at + i) ≡ true
+
+-- A page that is remembered is seen, and code may be run there, or nothing is remembered. `starts` is how many of its
+-- addresses begin four bytes that lie in it.
+pub record IsCode (see : ℕ → Option ℕ) (m : Pages) (code : CodePage) : Type 0 where
+  pub few : code.starts ≤ 4093
+  pub page : 0 < code.starts → OnePage see m Fetch code.virt 4096 code.place

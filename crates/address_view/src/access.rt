@@ -31,10 +31,11 @@ pub(crate) fn one_page(
     memory: &GuestMemory,
     view: &View,
     at: u64,
-    width: u8,
+    width: u64,
     kind: Access,
 ) -> Option<u64>
-    requires { 1 ≤ width }
+    requires some { 1 ≤ width }
+    requires few { width ≤ 4096 }
     ensures { IfSome result (λ place. OnePage (see view.now) memory.now kind at width place) }
 {
     memory.whole();
@@ -44,11 +45,11 @@ pub(crate) fn one_page(
         None => return None,
     };
     let into = at - window.virt;
-    if window.len - into < u64::from(width) {
+    if window.len - into < width {
         return None;
     }
     let place = window.phys + into;
-    if place % 4096 + u64::from(width) > 4096 {
+    if place % 4096 + width > 4096 {
         return None;
     }
     match memory.rights_at(place) {
@@ -159,7 +160,7 @@ pub fn load_through(
     ensures loads { result ≡ loaded (seen_bytes (see view.now) (bytes_of memory.now)) (view_allows (see view.now) (rights_at memory.now) kind) at width }
     ensures below { IfOk result (λ number. number < 256 ^ width) }
 {
-    match one_page(memory, view, at, width, kind) {
+    match one_page(memory, view, at, u64::from(width), kind) {
         Some(place) => Ok(memory.number(place, width)),
         None => load_slowly(memory, view, at, width, kind),
     }

@@ -9,7 +9,7 @@ ghost use Rattle.rv_step.specs.declared.bus.Access.{Access as AnyAccess};
 ghost use Rattle.address_view.specs.declared.view.Window.{Window as AnyWindow};
 ghost use Rattle.address_view.specs.Windows.{AreWindows, ShowsOnce, see, shown_at, seen_bytes};
 ghost use Rattle.address_view.specs.Seen.{all_pass, view_allows, is_seen};
-ghost use Rattle.address_view.specs.Laws.{AllPass, PlacesDecide, OthersStay, TouchedSuffice, RangesSuffice, RangesAreMarked, SameMarked, StoredOver};
+ghost use Rattle.address_view.specs.Laws.{AllPass, PlacesDecide, OthersStay, TouchedSuffice, CodeStays, RangesSuffice, RangesAreMarked, SameMarked, StoredOver};
 
 use guest_memory::{bytes_are_put, marks_are_put};
 
@@ -71,6 +71,12 @@ pub fn touched_pages_suffice()
 /// another, and none of them lacks frames.
 pub fn ranges_suffice()
     ensures { RangesSuffice }
+{}
+
+/// What is remembered of a page of code outlives an instruction, which leaves view, rights and RAM.
+#[tactic(auto, using(crate::proofs::CodeLemmas::stays))]
+pub fn code_stays()
+    ensures { CodeStays }
 {}
 
 /// The pages that `lacks_after` counts are those that are touched, and those that an address of one of the ranges

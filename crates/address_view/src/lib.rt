@@ -2,6 +2,7 @@
 #![tactic(auto)]
 
 mod access;
+mod code;
 mod frames;
 mod laws;
 mod ranges;
@@ -12,10 +13,11 @@ mod view;
 mod viewed;
 
 pub use access::{load_through, number_slowly, refused};
+pub use code::CodePage;
 pub use frames::{ByteRange, lacks_after};
 pub use laws::{
-    bytes_behind_a_store, one_address, others_stay, places_decide, ranges_are_marked, ranges_pass,
-    ranges_suffice, seen_and_shown, seen_elsewhere, touched_pages_suffice,
+    bytes_behind_a_store, code_stays, one_address, others_stay, places_decide, ranges_are_marked,
+    ranges_pass, ranges_suffice, seen_and_shown, seen_elsewhere, touched_pages_suffice,
 };
 pub use ranges::{allowed, is_seen, load_bytes, put_bytes, put_touched, store_bytes, touch_bytes};
 pub use view::{View, Window};

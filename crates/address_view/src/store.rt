@@ -374,7 +374,7 @@ pub(crate) fn store_through(
     ensures base { memory.new.base ≡ memory.old.base }
     ensures pages { memory.new.pages ≡ memory.old.pages }
 {
-    match one_page(memory, view, at, width, Access::Store) {
+    match one_page(memory, view, at, u64::from(width), Access::Store) {
         Some(place) => store_page(memory, view, at, width, value, place),
         None => store_slowly(memory, view, at, width, value),
     }

@@ -15,7 +15,7 @@ use crate::instruction::instruction;
 use crate::load::{Plan, Refusal, plan_load};
 use crate::opening::put_firmware;
 use crate::placing::{layout_spreads, set_image_rights};
-use address_view::View;
+use address_view::{CodePage, View};
 use console_services::{Reply, output_string, set_mode, test_string};
 use guest_memory::{GuestMemory, PutEnd};
 use page_alloc::Layout;
@@ -56,16 +56,20 @@ pub struct Machine {
     handles: u64,
     /// What words were read as.
     known: KnownWords,
+    /// The page that the last instruction was fetched from. Whatever changes memory's rights forgets it.
+    code: CodePage,
 }
 
 impl Model for Machine {
     ghost use Rattle.firmware_core.specs.Machines.{State, Whole};
+    ghost use Rattle.address_view.specs.Windows.{see};
+    ghost use Rattle.address_view.specs.Seen.{IsCode};
 
     ghost Value = { State };
 
     ghost view = { λ m. record { x = m.regs.x; pc = m.regs.pc; memory = m.memory; layout = m.layout; view = m.view; image = m.image; handles = m.handles } };
 
-    ghost invariant = { λ m. Whole (record { x = m.regs.x; pc = m.regs.pc; memory = m.memory; layout = m.layout; view = m.view; image = m.image; handles = m.handles }) };
+    ghost invariant = { λ m. Whole (record { x = m.regs.x; pc = m.regs.pc; memory = m.memory; layout = m.layout; view = m.view; image = m.image; handles = m.handles }) × IsCode (see m.view) m.memory m.code };
 }
 
 impl Machine {
@@ -89,6 +93,7 @@ impl Machine {
             image: None,
             handles: 1,
             known,
+            code: CodePage::none(),
         })
     }
 
@@ -98,7 +103,8 @@ impl Machine {
         ensures { IfOk result (λ h. record { happened = h; state = self.new } ≡ instruction_turn self.old) }
     {
         let known = &mut self.known;
-        match instruction(known, &mut self.regs, &mut self.memory, &self.view) {
+        let code = &mut self.code;
+        match instruction(known, code, &mut self.regs, &mut self.memory, &self.view) {
             StepEnd::Next => Ok(Happened::Went),
             StepEnd::Trap(trap) => Ok(Happened::Trapped(trap)),
             StepEnd::Frames => Ok(Happened::Frames),
@@ -222,6 +228,7 @@ impl Machine {
         ensures { IfOk result (λ loaded. LoadGives loaded self.old self.new (placed_by self.old (plan_by plan.now))) }
     {
         layout_spreads(&self.layout);
+        self.code = CodePage::none();
         let first = ((plan.base - self.layout.base) / 4096) as u32;
         match self.memory.write_pages(first, plan.bytes.as_slice()) {
             Ok(()) => {}
@@ -285,6 +292,7 @@ impl Machine {
             if image.subsystem == 10 || status >= 1 << 63 {
                 layout_spreads(&self.layout);
                 let first = ((image.base - self.layout.base) / 4096) as u32;
+                self.code = CodePage::none();
                 self.memory.clear(first, image.pages);
                 self.image = None;
             }

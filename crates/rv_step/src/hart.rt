@@ -3,7 +3,8 @@
 
 ghost use Rattle.std.specs.Prelude.{◌≡◌, ◌==◌, ◌%◌, not, IsTrue, IfSome, IfOk, IfErr, Ok, Err};
 ghost use Rattle.rv_decode.specs.Means.{NamesRegisters, decoded};
-ghost use Rattle.rv_step.specs.Exec.{or_illegal, fetched, step_of};
+ghost use Rattle.rv_step.specs.declared.bus.Access.{Access};
+ghost use Rattle.rv_step.specs.Exec.{AreHalves, or_illegal, fetched, step_of};
 ghost use Rattle.rv_step.specs.Steps.{StepGives, StepKeeps, state_of};
 
 use crate::bus::{Access, Bus};
@@ -78,14 +79,21 @@ fn fetch_anew<B: Bus>(known: &mut KnownWords, bus: &B, pc: u64) -> Result<(Insn,
     }
 }
 
-/// The instruction at an address, if one look finds it and its reading is remembered. None says nothing.
+/// The instruction at an address, if both of its halves were looked up and its reading is remembered. None says nothing.
 #[tactic(auto, unfolding(crate::specs::Exec::fetched))]
 #[inline(always)]
-fn recalled<B: Bus>(known: &KnownWords, bus: &B, pc: u64) -> Option<(Insn, u8)>
+fn recalled<B: Bus>(
+    known: &KnownWords,
+    halves: Option<(u16, u16)>,
+    bus: &B,
+    pc: u64,
+) -> Option<(Insn, u8)>
+    requires { IfSome halves (AreHalves (B.bytes bus.now) (B.allows bus.now Access.Fetch) pc) }
     ensures found { IfSome result (λ insn. fetched (B.bytes bus.now) (B.allows bus.now) pc ≡ Ok insn) }
     ensures registers { IfSome result (λ insn. NamesRegisters insn.0) }
 {
-    match bus.fetch_both(pc) {
+    let _ = bus;
+    match halves {
         Some((half0, half1)) => known.recall(pc, half0, half1),
         None => None,
     }
@@ -147,7 +155,6 @@ fn step_anew<B: Bus>(known: &mut KnownWords, regs: &mut Regs, bus: &mut B) -> St
 }
 
 /// `step`, by the readings of words that are remembered.
-#[tactic(auto, unfolding(crate::specs::Exec::step_of))]
 #[inline(always)]
 pub fn step_known<B: Bus>(known: &mut KnownWords, regs: &mut Regs, bus: &mut B) -> StepEnd
     ensures step { StepGives (B.lacks_frames bus.old) (B.takes_no_memory bus.old) result
@@ -159,7 +166,30 @@ pub fn step_known<B: Bus>(known: &mut KnownWords, regs: &mut Regs, bus: &mut B) 
         (B.content bus.old) (B.content bus.new) }
     ensures rights { B.allows bus.new ≡ B.allows bus.old }
 {
-    match recalled(known, bus, regs.pc) {
+    let halves = bus.fetch_both(regs.pc);
+    step_fetched(known, halves, regs, bus)
+}
+
+/// `step_known` of an instruction whose halves the caller looked up, where a look at what it remembers found them.
+#[tactic(auto, unfolding(crate::specs::Exec::step_of))]
+#[inline(always)]
+pub fn step_fetched<B: Bus>(
+    known: &mut KnownWords,
+    halves: Option<(u16, u16)>,
+    regs: &mut Regs,
+    bus: &mut B,
+) -> StepEnd
+    requires { IfSome halves (AreHalves (B.bytes bus.old) (B.allows bus.old Access.Fetch) regs.old.pc) }
+    ensures step { StepGives (B.lacks_frames bus.old) (B.takes_no_memory bus.old) result
+        (step_of (B.allows bus.old) (state_of regs.old (B.bytes bus.old)))
+        (state_of regs.old (B.bytes bus.old)) (state_of regs.new (B.bytes bus.new)) }
+    ensures same { B.same bus.old bus.new }
+    ensures content { StepKeeps B.kept (B.after bus.old) result
+        (step_of (B.allows bus.old) (state_of regs.old (B.bytes bus.old)))
+        (B.content bus.old) (B.content bus.new) }
+    ensures rights { B.allows bus.new ≡ B.allows bus.old }
+{
+    match recalled(known, halves, bus, regs.pc) {
         Some((insn, len)) => execute(insn, len, regs, bus),
         None => step_anew(known, regs, bus),
     }

@@ -20,7 +20,7 @@ write_pages-requires-clause-inside c =
     let l = lies _ _ _ _ (sym c.self.view_is) c.requires.lies in
     let low = l.low in let even = l.even in
     let high : c.args.plan.now.base + 4096 * ((c.args.plan.now.image.size + 4095) / 4096 * 4096 / 4096) ≤ c.self.inside.layout.os_stack = l.high in
-    let pages = c.self.invariant.pages in
+    let pages = c.self.invariant.0.pages in
     let room : length c.args.plan.now.bytes.items ≡ (c.args.plan.now.image.size + 4095) / 4096 * 4096 = c.requires.room in
     let same = ap length c.as_slice.ensures.value in
     omega arith
@@ -31,7 +31,7 @@ set_image_rights-requires-clause-inside c =
     let l = lies _ _ _ _ (sym c.self.view_is) c.requires.lies in
     let low = l.low in let even = l.even in
     let high : c.args.plan.now.base + 4096 * ((c.args.plan.now.image.size + 4095) / 4096 * 4096 / 4096) ≤ c.self.inside.layout.os_stack = l.high in
-    let pages = c.self.invariant.pages in
+    let pages = c.self.invariant.0.pages in
     let kept = c.write_pages.ensures.pages in
     let goal_is : (c.args.plan.now.base - c.self.inside.layout.base) / 4096 + (c.args.plan.now.image.size + 4095) / 4096 * 4096 / 4096 ≤ c.write_pages.new.self.pages = omega arith in goal_is
 
@@ -41,9 +41,25 @@ invariant_of-self-2 c =
     let low = l.low in
     let high : c.args.plan.now.base + 4096 * ((c.args.plan.now.image.size + 4095) / 4096 * 4096 / 4096) ≤ c.self.inside.layout.os_stack = l.high in
     let same = c.from.ensures in
-    record {
-      layout = c.self.invariant.layout;
-      base = c.set_image_rights.ensures.base ∙ c.write_pages.ensures.base ∙ c.self.invariant.base;
-      pages = c.set_image_rights.ensures.pages ∙ c.write_pages.ensures.pages ∙ c.self.invariant.pages;
+    (record {
+      layout = c.self.invariant.0.layout;
+      base = c.set_image_rights.ensures.base ∙ c.write_pages.ensures.base ∙ c.self.invariant.0.base;
+      pages = c.set_image_rights.ensures.pages ∙ c.write_pages.ensures.pages ∙ c.self.invariant.0.pages;
       image = record { low = low; high = omega arith };
-    }
+    }, c.none-self-inside.ensures _ _)
+
+pub invariant_of-self : goal.invariant_of-self
+invariant_of-self c = (record {
+    layout = c.self.invariant.0.layout;
+    base = c.write_pages.ensures.base ∙ c.self.invariant.0.base;
+    pages = c.write_pages.ensures.pages ∙ c.self.invariant.0.pages;
+    image = c.self.invariant.0.image;
+  }, c.none-self-inside.ensures _ _)
+
+pub invariant_of-self-in-Err-Memory : goal.invariant_of-self-in-Err-Memory
+invariant_of-self-in-Err-Memory c = (record {
+    layout = c.self.invariant.0.layout;
+    base = c.write_pages.ensures.base ∙ c.self.invariant.0.base;
+    pages = c.write_pages.ensures.pages ∙ c.self.invariant.0.pages;
+    image = c.self.invariant.0.image;
+  }, c.none-self-inside.ensures _ _)
