@@ -1,13 +1,13 @@
 -- Pages of the pool that are given back.
 use Rattle.std.proofs.Common.{◌≡◌, ℕ, zero, suc, ◌<◌, List, [], ◌∷◌, length, get_or, refl, arith, true, inl, inr, subst}
-use Rattle.std.specs.Prelude.{Option, Some, Err, remove}
+use Rattle.std.specs.Prelude.{Option, Some, Ok, Err, remove}
 use Rattle.page_alloc.specs.declared.page.Owner.TheVariants.{Pool}
 use Rattle.page_alloc.specs.Pages.{PageList, Whole, changed, conventional}
 use Rattle.page_alloc.specs.declared.page.PageRefusal.{PageRefusal}
 use Rattle.page_alloc.specs.Calls.{owns, freeing}
-use Rattle.page_alloc.proofs.CallLemmas.{owns_kept, owns_tells, free_owned}
-use Rattle.pool_alloc.specs.Pool.{BlockPage, behind, pages_of, IsPage, Apart, ApartFrom, IsPool, Together, BackGives}
-use Rattle.pool_alloc.proofs.NewPageLemmas.{some_pages}
+use Rattle.page_alloc.specs.Laws.{OwnedAreFreed}
+use Rattle.pool_alloc.specs.Pool.{BlockPage, pages_of, IsPage, Apart, ApartFrom, IsPool, Together, BackGives}
+use Rattle.pool_alloc.proofs.BlockLemmas.{some_pages}
 use Rattle.pool_alloc.proofs.PoolLemmas.{page_of}
 
 from_less : (p : BlockPage) (pages : List BlockPage) (i : ℕ) → ApartFrom p pages → ApartFrom p (remove pages i)
@@ -37,18 +37,12 @@ own_there (p ∷ ps) m zero d h all = all.0
 own_there (p ∷ ps) m (suc i) d h all = own_there ps m i d (omega arith) all.1
 
 -- a page stays the pool's where another one is given back
-module _ (m : PageList) (p : BlockPage) (whole : Whole m) (is_p : IsPage p) (owned_p : owns m Pool p.start (pages_of p.blocks) ≡ true) where
+module _ (freed : OwnedAreFreed) (m : PageList) (p : BlockPage) (whole : Whole m) (is_p : IsPage p) (owned_p : owns m Pool p.start (pages_of p.blocks) ≡ true) where
+  pub is_freed : freeing m Pool p.start (pages_of p.blocks) ≡ Ok tt
+  is_freed = (freed m Pool p.start (pages_of p.blocks) whole is_p.on_page (some_pages p.blocks is_p.blocks) owned_p).0
+
   stays : (q : BlockPage) → IsPage q → Apart q p → owns m Pool q.start (pages_of q.blocks) ≡ true → owns (changed m p.start (pages_of p.blocks) conventional) Pool q.start (pages_of q.blocks) ≡ true
-  stays q is apart owned =
-      let o = (owns_tells m Pool p.start (pages_of p.blocks)).0 owned_p in
-      let u = (owns_tells m Pool q.start (pages_of q.blocks)).0 owned in
-      let low = o.low in
-      let low' = u.low in
-      let even = whole.ram.on_page in
-      let on = is_p.on_page in
-      let on' = is.on_page in
-      owns_kept m Pool q.start (pages_of q.blocks) p.start (pages_of p.blocks) conventional o.each.inside
-      (elim apart [ inl before ↦ inl (omega (arith, before, low, low', even, on, on')) | inr behind ↦ inr (omega (arith, behind, low, low', even, on, on')) ]) owned
+  stays q is apart owned = (freed m Pool p.start (pages_of p.blocks) whole is_p.on_page (some_pages p.blocks is_p.blocks) owned_p).1 Pool q.start (pages_of q.blocks) is.on_page apart owned
 
   all_stay : (qs : List BlockPage) → IsPool qs → ApartFrom p qs → Together qs m → Together qs (changed m p.start (pages_of p.blocks) conventional)
   all_stay [] all apart together = tt
@@ -60,16 +54,16 @@ module _ (m : PageList) (p : BlockPage) (whole : Whole m) (is_p : IsPage p) (own
   rest_stays (q ∷ qs) (suc i) d h e all together =
       (stays q all.0 (subst (λ x. Apart q x) e (from_there q qs i d (omega arith) all.1)) together.0, rest_stays qs i d (omega arith) e all.2 together.1)
 
-pub back_gives : (pool : List BlockPage) (m : PageList) (i : ℕ) (d : BlockPage) → Whole m → i < length pool → IsPool pool → Together pool m
+pub back_gives : OwnedAreFreed → (pool : List BlockPage) (m : PageList) (i : ℕ) (d : BlockPage) → Whole m → i < length pool → IsPool pool → Together pool m
     → BackGives (Some ((get_or pool i d).start, pages_of (get_or pool i d).blocks)) (remove pool i) m
-back_gives pool m i d whole h all together =
+back_gives freed pool m i d whole h all together =
     let is = page_of pool i d all h in
     let owned = own_there pool m i d h together in
-    (some_pages (get_or pool i d).blocks is.blocks, is.on_page, owned, rest_stays m (get_or pool i d) whole is owned pool i d h refl all together)
+    (is_freed freed m (get_or pool i d) whole is owned, rest_stays freed m (get_or pool i d) whole is owned pool i d h refl all together)
 
 -- what is given back is taken
 pub is_taken : (back : Option (ℕ × ℕ)) (start count : ℕ) (new : List BlockPage) (m : PageList) (refusal : PageRefusal) → back ≡ Some (start, count) → BackGives back new m → Err refusal ≡ freeing m Pool start count → ⊥
 is_taken back start count new m refusal e gives answer =
     let given : BackGives (Some (start, count)) new m = subst (λ b. BackGives b new m) e gives in
-    let ok = free_owned m Pool start count given.1 given.0 given.2 in
+    let ok : freeing m Pool start count ≡ Ok tt = given.0 in
     cc

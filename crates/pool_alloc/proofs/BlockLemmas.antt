@@ -103,3 +103,9 @@ pub lowest_room : (blocks : List Block) (size n : ℕ) → 0 < size → lowest b
 lowest_room blocks size n some e =
     let h : IsLeast (Gap blocks size 0) (Some n) = subst (IsLeast (Gap blocks size 0)) e (lowest_is blocks size some) in
     room_is blocks size n h.0
+
+-- the pages that blocks take
+pub some_pages : (blocks : List Block) → AreBlocks blocks → 0 < pages_of blocks
+some_pages [] all = absurd all
+some_pages (b ∷ bs) (inl large) = let l : 2048 < b.size = (let h = large.large in grind (arith, nat_tests)) in omega arith
+some_pages (b ∷ bs) (inr shared) = let one = shared_pages (b ∷ bs) shared in omega (arith, one)

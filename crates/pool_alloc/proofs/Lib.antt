@@ -1,6 +1,7 @@
 pub mod GapLemmas
 pub mod BlockLemmas
 pub mod PoolLemmas
+pub mod TogetherLemmas
 pub mod NewPageLemmas
 pub mod PlacedLemmas
 pub mod TakeLemmas
@@ -8,4 +9,3 @@ pub mod RestLemmas
 pub mod BackLemmas
 pub mod TakingLemmas
 pub mod LawLemmas
-pub mod TogetherLemmas

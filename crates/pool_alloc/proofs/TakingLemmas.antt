@@ -4,6 +4,7 @@ use Rattle.std.specs.Prelude.{Some, None, remove, position, slice_set, ◌==◌}
 use Rattle.std.proofs.lemmas.Bool.Decides.{nat_tests}
 use Rattle.std.proofs.lemmas.List.{take-set, drop-set-lt}
 use Rattle.page_alloc.specs.Pages.{PageList, Whole}
+use Rattle.page_alloc.specs.Laws.{OwnedAreFreed}
 use Rattle.pool_alloc.specs.declared.block.Block.{Block}
 use Rattle.pool_alloc.specs.Pool.{BlockPage, behind, take_first, begins_at, pages_of, IsPool, Together, BackGives}
 use Rattle.pool_alloc.proofs.PoolLemmas.{read}
@@ -67,10 +68,10 @@ module _ (s pool : List BlockPage) (i at place : ℕ) (x y : BlockPage) (e : s �
   pub gone_is_pool : (zs : List BlockPage) → zs ≡ remove (slice_set s i y) i → IsPool zs
   gone_is_pool zs z = subst IsPool (sym (z ∙ remove-set s i y inside')) (pool_less s i all)
 
-  pub gone_gives : (zs : List BlockPage) (m : PageList) (start count : ℕ) → zs ≡ remove (slice_set s i y) i → start ≡ x.start → count ≡ pages_of x.blocks → Whole m → Together pool m → BackGives (Some (start, count)) zs m
-  gone_gives zs m start count z f c w together =
+  pub gone_gives : OwnedAreFreed → (zs : List BlockPage) (m : PageList) (start count : ℕ) → zs ≡ remove (slice_set s i y) i → start ≡ x.start → count ≡ pages_of x.blocks → Whole m → Together pool m → BackGives (Some (start, count)) zs m
+  gone_gives freed zs m start count z f c w together =
       let given : BackGives (Some (x.start, pages_of x.blocks)) (remove pool i) m
-      = subst (λ (q : BlockPage). BackGives (Some (q.start, pages_of q.blocks)) (remove pool i) m) here (back_gives pool m i x w inside whole together) in
+      = subst (λ (q : BlockPage). BackGives (Some (q.start, pages_of q.blocks)) (remove pool i) m) here (back_gives freed pool m i x w inside whole together) in
       let given' : BackGives (Some (x.start, pages_of x.blocks)) zs m = subst (λ ps. BackGives (Some (x.start, pages_of x.blocks)) ps m) (sym (z ∙ remove-set s i y inside' ∙ ap (λ ps. remove ps i) e)) given in
       subst (λ n. BackGives (Some (start, n)) zs m) (sym c) (subst (λ n. BackGives (Some (n, pages_of x.blocks)) zs m) (sym f) given')
 

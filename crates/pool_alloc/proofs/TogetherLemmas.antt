@@ -1,11 +1,10 @@
 -- A pool and its pages behind a call on pages.
-use Rattle.std.proofs.Common.{◌≡◌, List, [], ◌∷◌, refl, false}
+use Rattle.std.proofs.Common.{[], ◌∷◌, refl}
 use Rattle.page_alloc.specs.declared.page.Owner.TheVariants.{Pool}
-use Rattle.page_alloc.specs.Pages.{PageList, Whole}
-use Rattle.page_alloc.specs.Laws.{PageCall, after_call, is_release_by, OwnedStay}
-use Rattle.pool_alloc.specs.Pool.{BlockPage, pages_of, IsPool, Together}
+use Rattle.page_alloc.specs.Laws.{OwnedStay}
+use Rattle.pool_alloc.specs.Pool.{pages_of}
 use Rattle.pool_alloc.specs.Laws.{PoolStaysTogether}
-use Rattle.pool_alloc.proofs.NewPageLemmas.{some_pages}
+use Rattle.pool_alloc.proofs.BlockLemmas.{some_pages}
 
 pub stays_together : OwnedStay → PoolStaysTogether
 stays_together stay [] m call whole all other together = tt

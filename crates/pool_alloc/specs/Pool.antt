@@ -1,9 +1,9 @@
 -- The pages of the pool, in the order in which they were made.
-use Rattle.std.specs.Prelude.{ℕ, ◌≡◌, ◌<◌, ◌≤◌, ◌+◌, ◌*◌, ◌%◌, ◌^◌, ◌==◌, ◌&&◌, ◌⊎◌, not, Bool, true, List, [], ◌∷◌, ◌++◌, Option, Some, None, if◌then◌else◌}
+use Rattle.std.specs.Prelude.{ℕ, ◌≡◌, ◌<◌, ◌≤◌, ◌+◌, ◌*◌, ◌%◌, ◌^◌, ◌==◌, ◌&&◌, ◌⊎◌, not, Bool, true, List, [], ◌∷◌, ◌++◌, Option, Some, None, Ok, if◌then◌else◌}
 use Rattle.std.specs.List.{list_all, find, filter}
 use Rattle.page_alloc.specs.declared.page.Owner.TheVariants.{Pool}
 use Rattle.page_alloc.specs.Pages.{PageList, changed, conventional}
-use Rattle.page_alloc.specs.Calls.{owns}
+use Rattle.page_alloc.specs.Calls.{owns, freeing}
 use Rattle.pool_alloc.specs.declared.block.Block.{Block}
 use Rattle.pool_alloc.specs.Blocks.{lowest, has_room, is_large, pages_for, with_block}
 
@@ -139,8 +139,7 @@ abbrev pub TakeGives : Option (ℕ × Option (ℕ × ℕ)) → Option Taken → 
 TakeGives None wanted old new = (wanted ≡ None) × (new ≡ old)
 TakeGives (Some taken) wanted old new = wanted ≡ Some (record { size = taken.0; pages = new; back = taken.1 })
 
--- Pages that are given back are the pool's, and behind that the rest of it belongs to it still.
+-- Pages that are given back are freed, and behind that the rest of the pool belongs to it still.
 abbrev pub BackGives : Option (ℕ × ℕ) → List BlockPage → PageList → Type 0
 BackGives None new m = Together new m
-BackGives (Some back) new m =
-    (0 < back.1) × (back.0 % 4096 ≡ 0) × (owns m Pool back.0 back.1 ≡ true) × Together new (changed m back.0 back.1 conventional)
+BackGives (Some back) new m = (freeing m Pool back.0 back.1 ≡ Ok tt) × Together new (changed m back.0 back.1 conventional)

@@ -11,7 +11,7 @@ ghost use Rattle.pool_alloc.specs.Pool.{BlockPage, Placed, put_first, with_block
 use crate::block::{Block, pages_for, rounded};
 use crate::page::{LARGEST, PoolPage};
 use crate::refusal::PoolRefusal;
-use page_alloc::{Owner, PageMap, may_be_given};
+use page_alloc::{Owner, PageMap, given_are_owned, may_be_given, owned_are_freed, owned_stay};
 use std::alloc::{AllocError, Global};
 use std::marker::Model;
 
@@ -92,6 +92,8 @@ impl Pool {
         ensures length { length map.new.pages ≡ length map.old.pages }
     {
         map.whole();
+        given_are_owned();
+        owned_stay();
         let blocks = Vec::with_capacity(*self.pages.allocator(), 1)?;
         self.pages.reserve(1)?;
         match map.allocate(Owner::Pool, 0, memory_type, pages_for(size.max(1)), 0) {
@@ -162,6 +164,7 @@ impl Pool {
         let Some((index, place)) = self.find(at) else {
             return None;
         };
+        owned_are_freed();
         let page = &mut self.pages[index];
         let back = (page.start(), page.pages());
         let size = page.remove(place);

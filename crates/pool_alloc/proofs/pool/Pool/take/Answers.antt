@@ -37,4 +37,4 @@ returns-clause-gives c =
 pub returns-clause-back : goal.returns-clause-back
 returns-clause-back c = λ m whole together.
     gone_gives c.self.inside.pages.items c.args.self.now c.in-Some.index c.args.at c.in-Some.place _ _ c.self.view_is c.in-Some.ensures.inside c.index_mut-page.ensures.value c.self.invariant c.in-Some.ensures.place c.in-Some.ensures.before c.remove-size.ensures.page
-    _ m _ _ c.remove.ensures.items c.start.ensures c.pages.ensures whole together
+    c.owned_are_freed.ensures _ m _ _ c.remove.ensures.items c.start.ensures c.pages.ensures whole together
