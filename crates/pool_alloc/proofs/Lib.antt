@@ -6,6 +6,6 @@ pub mod NewPageLemmas
 pub mod PlacedLemmas
 pub mod TakeLemmas
 pub mod RestLemmas
-pub mod BackLemmas
+pub mod FreedLemmas
 pub mod TakingLemmas
 pub mod LawLemmas

@@ -1,14 +1,16 @@
 -- New pages of the pool.
 use Rattle.std.proofs.Common.{◌≡◌, ◌≢◌, ℕ, ◌+◌, ◌*◌, ◌/◌, ◌%◌, ◌^◌, ◌<◌, ◌≤◌, List, [], ◌∷◌, ◌++◌, refl, sym, ap, ◌∙◌, arith, Bool, true, false, inl, inr, subst, max}
-use Rattle.std.specs.Prelude.{◌==◌, Ok, if◌then◌else◌}
+use Rattle.std.specs.Prelude.{◌==◌, Result, Ok, if◌then◌else◌}
 use Rattle.std.proofs.lemmas.Bool.Decides.{nat_tests}
 use Rattle.page_alloc.specs.declared.page.Owner.TheVariants.{Pool}
+use Rattle.page_alloc.specs.declared.page.PageRefusal.{PageRefusal}
 use Rattle.page_alloc.specs.Pages.{PageList, Whole, changed}
 use Rattle.page_alloc.specs.Calls.{owns, allocation, after_allocation}
 use Rattle.page_alloc.specs.Laws.{IsGiven, GivenAreOwned, OwnedStay}
 use Rattle.page_alloc.specs.Laws.PageCall.{Allocate}
 use Rattle.pool_alloc.specs.Blocks.{rounded, is_large, pages_for}
 use Rattle.pool_alloc.specs.Pool.{BlockPage, pages_of, AreBlocks, IsPage, Apart, ApartFrom, IsPool, Together}
+use Rattle.pool_alloc.specs.Calls.{span_at}
 use Rattle.pool_alloc.proofs.BlockLemmas.{some_pages}
 use Rattle.pool_alloc.proofs.TogetherLemmas.{stays_together}
 
@@ -87,10 +89,17 @@ together_add : (pool : List BlockPage) (m : PageList) (p : BlockPage) → Togeth
 together_add [] m p together owned = (owned, tt)
 together_add (q ∷ qs) m p together owned = (together.0, together_add qs m p together.1 owned)
 
+pub add_count : (size k n : ℕ) → k ≡ max size 1 → n ≡ pages_for k → n ≡ pages_for (rounded size)
+add_count size k n e f = f ∙ ap pages_for e ∙ rounded_pages size
+
+-- the pages for a size, and for the rounded one
+pub span_is : (m : PageList) (t size k n : ℕ) (r : Result ℕ PageRefusal) → k ≡ max size 1 → n ≡ pages_for k → r ≡ allocation m 0 t n 0 → span_at n r ≡ span_at (pages_for (rounded size)) (allocation m 0 t (pages_for (rounded size)) 0)
+span_is m t size k n r e f h = ap (λ q. span_at n q) h ∙ ap (λ c. span_at c (allocation m 0 t c 0)) (add_count size k n e f)
+
 -- what the code takes
 module _ (given : GivenAreOwned) (m : PageList) (t size k n start : ℕ) (whole : Whole m) (e : k ≡ max size 1) (f : n ≡ pages_for k) (h : Ok start ≡ allocation m 0 t n 0) where
   same : n ≡ pages_for (rounded size)
-  same = f ∙ ap pages_for e ∙ rounded_pages size
+  same = add_count size k n e f
 
   pub add_given : IsGiven m start (pages_for (rounded size))
   add_given = subst (λ (c : ℕ). IsGiven m start c) same (given m Pool 0 t n 0 start whole (sym h)).0

@@ -9,7 +9,7 @@ use Rattle.std.proofs.lemmas.List.Edits.{length-remove}
 use Rattle.page_alloc.specs.Pages.{PageList}
 use Rattle.pool_alloc.specs.declared.block.Block.{Block}
 use Rattle.pool_alloc.specs.Blocks.{is_large}
-use Rattle.pool_alloc.specs.Pool.{BlockPage, behind, take_on, take_first, left_of, without, begins_at, is_shared, pages_of, InOrder, AreBlocks, AreShared, IsPage, IsPool, Together}
+use Rattle.pool_alloc.specs.Pool.{BlockPage, behind, take_on, take_first, left_of, without, begins_at, is_shared, pages_of, span_of, InOrder, AreBlocks, AreShared, IsPage, IsPool, Together}
 use Rattle.pool_alloc.proofs.GapLemmas.{and_true}
 use Rattle.pool_alloc.proofs.BlockLemmas.{shared_pages, some_blocks}
 use Rattle.pool_alloc.proofs.PoolLemmas.{SamePlace, pool_set, together_set, page_of}
@@ -108,12 +108,12 @@ module _ (pool : List BlockPage) (i at place : ℕ) (d : BlockPage) (e : Block) 
       ∙ ap (λ o. take_on (get_or pool i d) (drop (i + 1) pool) at o (take_first (drop (i + 1) pool) at)) (find_some (begins_at (get_or pool i d) at) (get_or pool i d).blocks place e found))
 
   kept_by : (bs : List Block) → bs ≡ (without (get_or pool i d) at).blocks → 0 < length bs → (pages : List BlockPage) (size : ℕ)
-      → left_of (get_or pool i d) (without (get_or pool i d) at) pages size bs ≡ record { size = size; pages = without (get_or pool i d) at ∷ pages; back = None }
+      → left_of (get_or pool i d) (without (get_or pool i d) at) pages size bs ≡ record { size = size; pages = without (get_or pool i d) at ∷ pages; freed = None }
   kept_by [] same some pages size = absurd (omega arith)
   kept_by (b ∷ bs) same some pages size = refl
 
   gone_by : (bs : List Block) → length bs ≡ 0 → (pages : List BlockPage) (size : ℕ)
-      → left_of (get_or pool i d) (without (get_or pool i d) at) pages size bs ≡ record { size = size; pages = pages; back = Some ((get_or pool i d).start, pages_of (get_or pool i d).blocks) }
+      → left_of (get_or pool i d) (without (get_or pool i d) at) pages size bs ≡ record { size = size; pages = pages; freed = Some (span_of (get_or pool i d)) }
   gone_by [] none pages size = refl
   gone_by (b ∷ bs) none pages size = absurd (omega arith)
 
@@ -122,23 +122,23 @@ module _ (pool : List BlockPage) (i at place : ℕ) (d : BlockPage) (e : Block) 
 
   -- other blocks stay on the page
   pub page_kept : 0 < length (remove (get_or pool i d).blocks place)
-      → take_first pool at ≡ Some (record { size = (get_or (get_or pool i d).blocks place e).size; pages = slice_set pool i (less (get_or pool i d) place); back = None })
+      → take_first pool at ≡ Some (record { size = (get_or (get_or pool i d).blocks place e).size; pages = slice_set pool i (less (get_or pool i d) place); freed = None })
   page_kept some =
       let next : i + 1 ≡ suc i = omega arith in
       let some' : 0 < length (without (get_or pool i d) at).blocks = subst (λ (q : BlockPage). 0 < length q.blocks) (sym same) some in
       step ∙ ap (λ t. behind (take i pool) (Some t)) (kept_by (without (get_or pool i d) at).blocks refl some' (drop (i + 1) pool) (get_or (get_or pool i d).blocks place e).size)
-      ∙ ap (λ q. Some (record { size = (get_or (get_or pool i d).blocks place e).size; pages = take i pool ++ q ∷ drop (i + 1) pool; back = None })) same
-      ∙ ap (λ n. Some (record { size = (get_or (get_or pool i d).blocks place e).size; pages = take i pool ++ less (get_or pool i d) place ∷ drop n pool; back = None })) next
-      ∙ ap (λ ps. Some (record { size = (get_or (get_or pool i d).blocks place e).size; pages = ps; back = None })) (sym (set_split pool i (less (get_or pool i d) place) inside))
+      ∙ ap (λ q. Some (record { size = (get_or (get_or pool i d).blocks place e).size; pages = take i pool ++ q ∷ drop (i + 1) pool; freed = None })) same
+      ∙ ap (λ n. Some (record { size = (get_or (get_or pool i d).blocks place e).size; pages = take i pool ++ less (get_or pool i d) place ∷ drop n pool; freed = None })) next
+      ∙ ap (λ ps. Some (record { size = (get_or (get_or pool i d).blocks place e).size; pages = ps; freed = None })) (sym (set_split pool i (less (get_or pool i d) place) inside))
 
   -- the page is given back
   pub page_gone : length (remove (get_or pool i d).blocks place) ≡ 0
-      → take_first pool at ≡ Some (record { size = (get_or (get_or pool i d).blocks place e).size; pages = remove pool i; back = Some ((get_or pool i d).start, pages_of (get_or pool i d).blocks) })
+      → take_first pool at ≡ Some (record { size = (get_or (get_or pool i d).blocks place e).size; pages = remove pool i; freed = Some (span_of (get_or pool i d)) })
   page_gone none =
       let next : i + 1 ≡ suc i = omega arith in
       let none' : length (without (get_or pool i d) at).blocks ≡ 0 = ap (λ (q : BlockPage). length q.blocks) same ∙ none in
       step ∙ ap (λ t. behind (take i pool) (Some t)) (gone_by (without (get_or pool i d) at).blocks none' (drop (i + 1) pool) (get_or (get_or pool i d).blocks place e).size)
-      ∙ ap (λ n. Some (record { size = (get_or (get_or pool i d).blocks place e).size; pages = take i pool ++ drop n pool; back = Some ((get_or pool i d).start, pages_of (get_or pool i d).blocks) })) next
+      ∙ ap (λ n. Some (record { size = (get_or (get_or pool i d).blocks place e).size; pages = take i pool ++ drop n pool; freed = Some (span_of (get_or pool i d)) })) next
 
   less_place : 0 < length (remove (get_or pool i d).blocks place) → SamePlace (get_or pool i d) (less (get_or pool i d) place)
   less_place some = record { start = refl; pages = (rest_of (get_or pool i d) at place (get_or pool i d).blocks is.blocks found some).1 }

@@ -39,7 +39,7 @@ behind_none (Some taken) = refl
 
 over_page : (before : List BlockPage) (page : BlockPage) (pages : List BlockPage) (at : ℕ) (o : Option Taken) → behind before (take_on page pages at None o) ≡ behind (before ++ page ∷ []) o
 over_page before page pages at None = refl
-over_page before page pages at (Some taken) = ap (λ ps. Some (record { size = taken.size; pages = ps; back = taken.back })) (sym (append_assoc before (page ∷ []) taken.pages))
+over_page before page pages at (Some taken) = ap (λ ps. Some (record { size = taken.size; pages = ps; freed = taken.freed })) (sym (append_assoc before (page ∷ []) taken.pages))
 
 pub behind_more : (pool : List BlockPage) (i at : ℕ) (x : BlockPage) → i < length pool → x ≡ get_or pool i x → position (begins_at x at) x.blocks ≡ None
     → behind (take i pool) (take_first (drop i pool) at) ≡ take_first pool at → behind (take (i + 1) pool) (take_first (drop (i + 1) pool) at) ≡ take_first pool at

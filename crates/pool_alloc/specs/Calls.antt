@@ -1,10 +1,11 @@
 -- What AllocatePool and FreePool answer, and the pool and the pages behind them (UEFI 2.10, section 7.2).
-use Rattle.std.specs.Prelude.{ℕ, ◌≡◌, ◌++◌, List, [], ◌∷◌, Option, Some, None, Result, Ok, Err, if◌then◌else◌}
+use Rattle.std.specs.Prelude.{ℕ, ◌≡◌, ◌≤◌, ◌+◌, ◌*◌, ◌++◌, length, List, [], ◌∷◌, Option, Some, None, Result, Ok, Err, if◌then◌else◌}
 use Rattle.page_alloc.specs.declared.page.Owner.TheVariants.{Pool}
 use Rattle.page_alloc.specs.declared.page.PageRefusal.{PageRefusal}
 use Rattle.page_alloc.specs.Pages.{PageList, changed, conventional}
 use Rattle.page_alloc.specs.Calls.{may_be_given, allocation, after_allocation}
 use Rattle.pool_alloc.specs.declared.refusal.PoolRefusal.{PoolRefusal}
+use Rattle.pool_alloc.specs.declared.span.PageSpan.{PageSpan}
 use Rattle.pool_alloc.specs.declared.refusal.PoolRefusal.TheVariants.{Invalid, NoPages, Memory}
 use Rattle.pool_alloc.specs.Blocks.{rounded, is_large, pages_for}
 use Rattle.pool_alloc.specs.Pool.{BlockPage, Placed, Taken, put_first, take_first}
@@ -39,14 +40,50 @@ unfoldable pub pool_allocation : List BlockPage → PageList → ℕ → ℕ →
 pool_allocation pool m memory_type size =
     if may_be_given memory_type then on_page pool m memory_type (rounded size) (gap_for pool memory_type (rounded size)) else Err Invalid
 
--- the pages behind what a pool gives back
-abbrev pub with_back : PageList → Option (ℕ × ℕ) → PageList
-with_back m None = m
-with_back m (Some back) = changed m back.0 back.1 conventional
+-- what AllocatePool answers
+abbrev pub answer_of : Result Done PoolRefusal → Result ℕ PoolRefusal
+answer_of (Ok done) = Ok done.answer
+answer_of (Err refusal) = Err refusal
+
+-- so many pages from the address that AllocatePages answers
+abbrev pub span_at : ℕ → Result ℕ PageRefusal → Option PageSpan
+span_at count (Ok start) = Some (record { start = start; count = count })
+span_at count (Err refusal) = None
+
+abbrev pub span_beside : PageList → ℕ → ℕ → Option Placed → Option PageSpan
+span_beside m memory_type size (Some placed) = None
+span_beside m memory_type size None = span_at (pages_for size) (allocation m 0 memory_type (pages_for size) 0)
+
+-- the pages that AllocatePool allocates: none for a block that goes into a gap, and none where it is refused
+unfoldable pub pages_allocated : List BlockPage → PageList → ℕ → ℕ → Option PageSpan
+pages_allocated pool m memory_type size = if may_be_given memory_type then span_beside m memory_type (rounded size) (gap_for pool memory_type (rounded size)) else None
+
+-- pages that lie in RAM
+abbrev pub InRam : Option PageSpan → PageList → Type 0
+InRam None m = Unit {0}
+InRam (Some span) m = (m.base ≤ span.start) × (span.start + 4096 * span.count ≤ m.base + 4096 * length m.pages)
+
+-- the map behind it
+abbrev pub with_allocated : PageList → ℕ → Option PageSpan → PageList
+with_allocated m memory_type None = m
+with_allocated m memory_type (Some span) = changed m span.start span.count (record { memory_type = memory_type; owner = Pool })
+
+-- the map behind pages that are freed
+abbrev pub with_freed : PageList → Option PageSpan → PageList
+with_freed m None = m
+with_freed m (Some span) = changed m span.start span.count conventional
 
 abbrev pub freed : PageList → Option Taken → Result Done PoolRefusal
 freed m None = Err Invalid
-freed m (Some taken) = Ok (record { answer = taken.size; pool = taken.pages; pages = with_back m taken.back })
+freed m (Some taken) = Ok (record { answer = taken.size; pool = taken.pages; pages = with_freed m taken.freed })
+
+abbrev pub freed_by : Option Taken → Option PageSpan
+freed_by None = None
+freed_by (Some taken) = taken.freed
+
+-- the pages that FreePool frees: those of the block where no other is left there, and none where it is refused
+unfoldable pub pages_freed : List BlockPage → ℕ → Option PageSpan
+pages_freed pool at = freed_by (take_first pool at)
 
 -- FreePool
 unfoldable pub pool_freeing : List BlockPage → PageList → ℕ → Result Done PoolRefusal

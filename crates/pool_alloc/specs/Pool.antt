@@ -5,6 +5,7 @@ use Rattle.page_alloc.specs.declared.page.Owner.TheVariants.{Pool}
 use Rattle.page_alloc.specs.Pages.{PageList, changed, conventional}
 use Rattle.page_alloc.specs.Calls.{owns, freeing}
 use Rattle.pool_alloc.specs.declared.block.Block.{Block}
+use Rattle.pool_alloc.specs.declared.span.PageSpan.{PageSpan}
 use Rattle.pool_alloc.specs.Blocks.{lowest, has_room, is_large, pages_for, with_block}
 
 -- where a page begins, the memory type of its blocks, and its blocks by offset
@@ -17,6 +18,10 @@ pub record BlockPage : Type 0 where
 abbrev pub pages_of : List Block → ℕ
 pages_of [] = 1
 pages_of (block ∷ blocks) = pages_for block.size
+
+-- the pages that are the pool's for these blocks
+abbrev pub span_of : BlockPage → PageSpan
+span_of page = record { start = page.start; count = pages_of page.blocks }
 
 -- blocks whose gaps others may take: none is large
 abbrev pub is_shared : List Block → Bool
@@ -52,22 +57,21 @@ begins_at page at block = page.start + block.offset == at
 abbrev pub without : BlockPage → ℕ → BlockPage
 without page at = record page { blocks = filter (λ block. not (begins_at page at block)) page.blocks }
 
--- the size of a block that was taken, the pages of the pool behind it, and the pages that are given back, by
--- their start and number
+-- the size of a block that was taken, the pages of the pool behind it, and the pages that it needs no more
 pub record Taken : Type 0 where
   pub size : ℕ
   pub pages : List BlockPage
-  pub back : Option (ℕ × ℕ)
+  pub freed : Option PageSpan
 
 -- A page without a block is given back.
 abbrev pub left_of : BlockPage → BlockPage → List BlockPage → ℕ → List Block → Taken
-left_of page rest pages size [] = record { size = size; pages = pages; back = Some (page.start, pages_of page.blocks) }
-left_of page rest pages size (block ∷ blocks) = record { size = size; pages = rest ∷ pages; back = None }
+left_of page rest pages size [] = record { size = size; pages = pages; freed = Some (span_of page) }
+left_of page rest pages size (block ∷ blocks) = record { size = size; pages = rest ∷ pages; freed = None }
 
 abbrev pub take_on : BlockPage → List BlockPage → ℕ → Option Block → Option Taken → Option Taken
 take_on page pages at (Some block) others = Some (left_of page (without page at) pages block.size (without page at).blocks)
 take_on page pages at None None = None
-take_on page pages at None (Some taken) = Some (record { size = taken.size; pages = page ∷ taken.pages; back = taken.back })
+take_on page pages at None (Some taken) = Some (record { size = taken.size; pages = page ∷ taken.pages; freed = taken.freed })
 
 -- The block that begins at an address is taken from its page.
 unfoldable pub take_first : List BlockPage → ℕ → Option Taken
@@ -77,7 +81,7 @@ take_first (page ∷ pages) at = take_on page pages at (find (begins_at page at)
 -- what was taken from the pages behind others
 abbrev pub behind : List BlockPage → Option Taken → Option Taken
 behind before None = None
-behind before (Some taken) = Some (record { size = taken.size; pages = before ++ taken.pages; back = taken.back })
+behind before (Some taken) = Some (record { size = taken.size; pages = before ++ taken.pages; freed = taken.freed })
 
 -- blocks from an offset on, by offset: each has a whole number of units of 8 bytes, ends on the page, and has no
 -- byte of another
@@ -135,11 +139,11 @@ Together [] m = Unit {0}
 Together (page ∷ pages) m = (owns m Pool page.start (pages_of page.blocks) ≡ true) × Together pages m
 
 -- A taking that answers so leads from one pool to another.
-abbrev pub TakeGives : Option (ℕ × Option (ℕ × ℕ)) → Option Taken → List BlockPage → List BlockPage → Type 0
+abbrev pub TakeGives : Option (ℕ × Option PageSpan) → Option Taken → List BlockPage → List BlockPage → Type 0
 TakeGives None wanted old new = (wanted ≡ None) × (new ≡ old)
-TakeGives (Some taken) wanted old new = wanted ≡ Some (record { size = taken.0; pages = new; back = taken.1 })
+TakeGives (Some taken) wanted old new = wanted ≡ Some (record { size = taken.0; pages = new; freed = taken.1 })
 
--- Pages that are given back are freed, and behind that the rest of the pool belongs to it still.
-abbrev pub BackGives : Option (ℕ × ℕ) → List BlockPage → PageList → Type 0
-BackGives None new m = Together new m
-BackGives (Some back) new m = (freeing m Pool back.0 back.1 ≡ Ok tt) × Together new (changed m back.0 back.1 conventional)
+-- Pages that a pool needs no more can be freed, and behind that each page of the pool belongs to it still.
+abbrev pub CanFree : Option PageSpan → List BlockPage → PageList → Type 0
+CanFree None new m = Together new m
+CanFree (Some span) new m = (freeing m Pool span.start span.count ≡ Ok tt) × Together new (changed m span.start span.count conventional)

@@ -6,6 +6,7 @@ mod laws;
 mod page;
 mod pool;
 mod refusal;
+mod span;
 #[cfg(test)]
 mod tests;
 
@@ -13,3 +14,4 @@ pub use block::Block;
 pub use laws::{lowest_is_lowest, pool_is_apart, pool_stays_together};
 pub use pool::Pool;
 pub use refusal::PoolRefusal;
+pub use span::PageSpan;

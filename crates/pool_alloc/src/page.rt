@@ -3,9 +3,10 @@
 
 ghost use Rattle.std.specs.Prelude.{◌≡◌, ◌<◌, ◌≤◌, ◌+◌, ◌==◌, ◌∷◌, ℕ, IfOk, OnOk, OnErr, length, [], insert, remove, position, slice_index_or, vec_len, vec_capacity};
 ghost use Rattle.pool_alloc.specs.Blocks.{lowest, with_block};
-ghost use Rattle.pool_alloc.specs.Pool.{BlockPage, room_on, with_block_on, begins_at, pages_of, is_shared, AreShared, AreBlocks};
+ghost use Rattle.pool_alloc.specs.Pool.{BlockPage, room_on, with_block_on, begins_at, span_of, is_shared, AreShared, AreBlocks};
 
 use crate::block::{Block, pages_for};
+use crate::span::PageSpan;
 use std::alloc::{AllocError, Global};
 use std::marker::Model;
 
@@ -145,12 +146,22 @@ impl PoolPage {
         self.blocks.is_empty()
     }
 
-    /// How many pages the blocks take.
-    pub fn pages(&self) -> u64
-        requires { AreBlocks self.now.blocks }
-        ensures { result ≡ pages_of self.now.blocks }
+    /// Whether there is one block and no other.
+    pub fn has_one(&self) -> bool
+        ensures { result ≡ (length self.now.blocks == 1) }
     {
-        pages_for(self.blocks[0].size)
+        self.blocks.len() == 1
+    }
+
+    /// The pages that the blocks need.
+    pub fn span(&self) -> PageSpan
+        requires { AreBlocks self.now.blocks }
+        ensures { result ≡ span_of self.now }
+    {
+        PageSpan {
+            start: self.start,
+            count: pages_for(self.blocks[0].size),
+        }
     }
 
     /// An equal page.

@@ -2,15 +2,17 @@
 #![tactic(auto)]
 
 ghost use Rattle.std.specs.Prelude.{◌≡◌, ◌<◌, ◌≤◌, ◌+◌, ◌%◌, ℕ, IfOk, IfSome, IfNone, OnOk, OnErr, IfErr, length, [], Some, None, true, take, drop, position, slice_set, slice_index_or};
+ghost use Rattle.std.specs.Option.{option_map};
 ghost use Rattle.page_alloc.specs.Pages.{PageList, Whole};
 ghost use Rattle.page_alloc.specs.Calls.{may_be_given, allocation};
 ghost use Rattle.pool_alloc.specs.Blocks.{rounded, pages_for};
-ghost use Rattle.pool_alloc.specs.Calls.{Gives, GivesSurely, on_pages, pool_allocation, pool_freeing};
-ghost use Rattle.pool_alloc.specs.Pool.{BlockPage, Placed, put_first, with_block_on, take_first, begins_at, behind, TakeGives, BackGives, CanPut, IsPool, Together};
+ghost use Rattle.pool_alloc.specs.Calls.{Gives, GivesSurely, on_pages, gap_for, pool_allocation, pool_freeing, answer_of, span_at, pages_allocated, with_allocated, pages_freed, with_freed, InRam};
+ghost use Rattle.pool_alloc.specs.Pool.{BlockPage, Placed, put_first, with_block_on, take_first, begins_at, behind, TakeGives, CanFree, CanPut, IsPool, Together};
 
 use crate::block::{Block, pages_for, rounded};
 use crate::page::{LARGEST, PoolPage};
 use crate::refusal::PoolRefusal;
+use crate::span::PageSpan;
 use page_alloc::{Owner, PageMap, given_are_owned, may_be_given, owned_are_freed, owned_stay};
 use std::alloc::{AllocError, Global};
 use std::marker::Model;
@@ -30,6 +32,18 @@ impl Model for Pool {
     ghost view = { λ p. p.pages.items };
 
     ghost invariant = { λ p. IsPool p.pages.items };
+}
+
+/// The pages that a page map would give for a block of a memory type of so many bytes.
+fn new_pages(map: &PageMap, memory_type: u32, size: u64) -> Option<PageSpan>
+    ensures span { result ≡ span_at (pages_for (rounded size)) (allocation map.now 0 memory_type (pages_for (rounded size)) 0) }
+    ensures inside { InRam result map.now }
+{
+    let count = pages_for(size.max(1));
+    match map.allocation(0, memory_type, count, 0) {
+        Ok(start) => Some(PageSpan { start, count }),
+        Err(_) => None,
+    }
 }
 
 impl Pool {
@@ -87,6 +101,8 @@ impl Pool {
         requires together { Together self.old map.old }
         requires known { may_be_given memory_type ≡ true }
         ensures gives { Gives result (on_pages self.old map.old memory_type (rounded size) (allocation map.old 0 memory_type (pages_for (rounded size)) 0)) self.old map.old self.new map.new }
+        ensures pages { OnOk result (map.new ≡ with_allocated map.old memory_type (span_at (pages_for (rounded size)) (allocation map.old 0 memory_type (pages_for (rounded size)) 0))) }
+        ensures inside { OnOk result (InRam (span_at (pages_for (rounded size)) (allocation map.old 0 memory_type (pages_for (rounded size)) 0)) map.old) }
         ensures together { Together self.new map.new }
         ensures base { map.new.base ≡ map.old.base }
         ensures length { length map.new.pages ≡ length map.old.pages }
@@ -106,12 +122,59 @@ impl Pool {
         }
     }
 
+    /// The address of the gap that a block of at least so many bytes of a memory type would take.
+    fn gap(&self, memory_type: u32, size: u64) -> Option<u64>
+        ensures { result ≡ option_map (λ placed. placed.at) (gap_for self.now memory_type (rounded size)) }
+    {
+        if size > LARGEST {
+            return None;
+        }
+        let Some((index, offset)) = self.place(memory_type, rounded(size)) else {
+            return None;
+        };
+        let page = &self.pages[index];
+        Some(page.start() + offset)
+    }
+
+    /// The pages that `allocate` would take from the page map, None where its block would go into a gap and where it
+    /// would refuse.
+    #[tactic(auto, unfolding(crate::specs::Calls::pages_allocated))]
+    pub fn pages_allocated(&self, map: &PageMap, memory_type: u32, size: u64) -> Option<PageSpan>
+        ensures span { result ≡ pages_allocated self.now map.now memory_type size }
+        ensures inside { InRam result map.now }
+    {
+        if !may_be_given(memory_type) {
+            return None;
+        }
+        match self.gap(memory_type, size) {
+            Some(_) => None,
+            None => new_pages(map, memory_type, size),
+        }
+    }
+
+    /// What `allocate` would answer, but for want of memory.
+    #[tactic(auto, unfolding(crate::specs::Calls::pool_allocation))]
+    pub fn allocation(&self, map: &PageMap, memory_type: u32, size: u64) -> Result<u64, PoolRefusal>
+        ensures { result ≡ answer_of (pool_allocation self.now map.now memory_type size) }
+    {
+        if !may_be_given(memory_type) {
+            return Err(PoolRefusal::Invalid);
+        }
+        if let Some(at) = self.gap(memory_type, size) {
+            return Ok(at);
+        }
+        match new_pages(map, memory_type, size) {
+            Some(span) => Ok(span.start),
+            None => Err(PoolRefusal::NoPages),
+        }
+    }
+
     /// Gives a block of guest memory of at least so many bytes, as AllocatePool does (UEFI 2.10, section 7.2), and
     /// answers its address. The size is rounded up to a multiple of 8, and 0 to 8. A block of more than 2,048 bytes
     /// takes pages of its own. Others take the lowest gap of the first page of their type that has one, in the order
     /// in which the pages were made, or else a new page. New pages are at the highest start. `Invalid` is for a memory
     /// type that isn't given, `NoPages` where pages are needed and none fit.
-    #[tactic(auto, unfolding(crate::specs::Calls::pool_allocation))]
+    #[tactic(auto, unfolding(crate::specs::Calls::pool_allocation, crate::specs::Calls::pages_allocated))]
     pub fn allocate(
         &mut self,
         map: &mut PageMap,
@@ -120,6 +183,8 @@ impl Pool {
     ) -> Result<u64, PoolRefusal>
         requires { Together self.old map.old }
         ensures gives { Gives result (pool_allocation self.old map.old memory_type size) self.old map.old self.new map.new }
+        ensures pages { OnOk result (map.new ≡ with_allocated map.old memory_type (pages_allocated self.old map.old memory_type size)) }
+        ensures inside { OnOk result (InRam (pages_allocated self.old map.old memory_type size) map.old) }
         ensures together { Together self.new map.new }
         ensures base { map.new.base ≡ map.old.base }
         ensures length { length map.new.pages ≡ length map.old.pages }
@@ -130,9 +195,9 @@ impl Pool {
         if size > LARGEST {
             return self.add(map, memory_type, size);
         }
-        let units = rounded(size);
-        match self.place(memory_type, units) {
-            Some((index, offset)) => match self.put(index, offset, units) {
+        let rounded_size = rounded(size);
+        match self.place(memory_type, rounded_size) {
+            Some((index, offset)) => match self.put(index, offset, rounded_size) {
                 Ok(at) => Ok(at),
                 Err(_) => Err(PoolRefusal::Memory),
             },
@@ -155,32 +220,52 @@ impl Pool {
         None
     }
 
-    /// Takes the block that begins at an address out, and answers its size and, by their start and number, the pages
-    /// that have no block any more. These are no longer in the pool.
-    fn take(&mut self, at: u64) -> Option<(u64, Option<(u64, u64)>)>
+    /// The pages that `free` would give back to the page map, None where other blocks are left there and where it
+    /// would refuse.
+    #[tactic(auto, unfolding(crate::specs::Calls::pages_freed))]
+    pub fn pages_freed(&self, at: u64) -> Option<PageSpan>
+        ensures { result ≡ pages_freed self.now at }
+    {
+        let Some((index, _)) = self.find(at) else {
+            return None;
+        };
+        let page = &self.pages[index];
+        if page.has_one() {
+            Some(page.span())
+        } else {
+            None
+        }
+    }
+
+    /// Takes the block that begins at an address out, and answers its size and the pages that have no block any more.
+    /// These are no longer in the pool.
+    fn take(&mut self, at: u64) -> Option<(u64, Option<PageSpan>)>
         ensures gives { TakeGives result (take_first self.old at) self.old self.new }
-        ensures back { (m : PageList) → Whole m → Together self.old m → IfSome result (λ taken. BackGives taken.1 self.new m) }
+        ensures can { (m : PageList) → Whole m → Together self.old m → IfSome result (λ taken. CanFree taken.1 self.new m) }
     {
         let Some((index, place)) = self.find(at) else {
             return None;
         };
         owned_are_freed();
         let page = &mut self.pages[index];
-        let back = (page.start(), page.pages());
+        let freed = page.span();
         let size = page.remove(place);
         if !page.is_empty() {
             return Some((size, None));
         }
         self.pages.remove(index);
-        Some((size, Some(back)))
+        Some((size, Some(freed)))
     }
 
     /// Takes the block that begins at an address back, as FreePool does (UEFI 2.10, section 7.2), and answers its size.
-    /// A page without a block is given back. `Invalid` is for an address at which no block begins. It takes no memory.
-    #[tactic(auto, unfolding(crate::specs::Calls::pool_freeing))]
+    /// Pages without a block are given back to the page map. `Invalid` is for an address at which no block begins. It
+    /// takes no memory.
+    #[tactic(auto, unfolding(crate::specs::Calls::pool_freeing, crate::specs::Calls::pages_freed))]
     pub fn free(&mut self, map: &mut PageMap, at: u64) -> Result<u64, PoolRefusal>
         requires { Together self.old map.old }
         ensures gives { GivesSurely result (pool_freeing self.old map.old at) self.old map.old self.new map.new }
+        ensures pages { OnOk result (map.new ≡ with_freed map.old (pages_freed self.old at)) }
+        ensures inside { OnOk result (InRam (pages_freed self.old at) map.old) }
         ensures together { Together self.new map.new }
         ensures base { map.new.base ≡ map.old.base }
         ensures length { length map.new.pages ≡ length map.old.pages }
@@ -189,7 +274,7 @@ impl Pool {
         match self.take(at) {
             None => Err(PoolRefusal::Invalid),
             Some((size, None)) => Ok(size),
-            Some((size, Some((start, count)))) => match map.free(Owner::Pool, start, count) {
+            Some((size, Some(span))) => match map.free(Owner::Pool, span.start, span.count) {
                 Ok(()) => Ok(size),
                 Err(_) => unreachable!(),
             },

@@ -3,6 +3,7 @@
 
 use crate::pool::Pool;
 use crate::refusal::PoolRefusal;
+use crate::span::PageSpan;
 use page_alloc::{Layout, Owner, PageMap};
 use std::test::Fail;
 
@@ -11,8 +12,26 @@ fn blocks_in_gaps(rt: HostRuntime) -> Result<(), Fail> {
     let mut map = PageMap::new(rt.alloc(), &Layout::at(0x4000_0000, 4096))?;
     let mut pool = Pool::new(rt.alloc());
     assert_eq!(rt; pool.allocate(&mut map, 4, 96), Ok(0x40fb_b000));
+    assert_eq!(rt; pool.allocation(&map, 4, 10), Ok(0x40fb_b060));
+    assert_eq!(rt; pool.pages_allocated(&map, 4, 10), None);
     assert_eq!(rt; pool.allocate(&mut map, 4, 10), Ok(0x40fb_b060));
+    assert_eq!(rt; pool.allocation(&map, 6, 8), Ok(0x40fb_a000));
+    assert_eq!(rt;
+        pool.pages_allocated(&map, 6, 8),
+        Some(PageSpan {
+            start: 0x40fb_a000,
+            count: 1
+        })
+    );
     assert_eq!(rt; pool.allocate(&mut map, 6, 8), Ok(0x40fb_a000));
+    assert_eq!(rt; pool.pages_freed(0x40fb_b060), None);
+    assert_eq!(rt;
+        pool.pages_freed(0x40fb_a000),
+        Some(PageSpan {
+            start: 0x40fb_a000,
+            count: 1
+        })
+    );
     assert_eq!(rt; pool.free(&mut map, 0x40fb_b061), Err(PoolRefusal::Invalid));
     assert_eq!(rt; pool.free(&mut map, 0x40fb_b060), Ok(16));
     let mut copied = pool.copy()?;

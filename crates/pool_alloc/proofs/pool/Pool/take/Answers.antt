@@ -1,10 +1,10 @@
 use Rattle.std.proofs.Common.{◌<◌, length, arith, ap}
 use Rattle.pool_alloc.proofs.PoolLemmas.{read_blocks}
-use Rattle.pool_alloc.proofs.TakingLemmas.{kept, kept_is_pool, kept_is_together, gone, gone_is_pool, gone_gives, some_left, none_left}
+use Rattle.pool_alloc.proofs.TakingLemmas.{kept, kept_is_pool, kept_is_together, gone, gone_is_pool, gone_frees, some_left, none_left}
 use Rattle.pool_alloc.proofs.pool.Pool.take.Goals as goal
 
-pub pages-requires : goal.pages-requires
-pages-requires c =
+pub span-freed-requires : goal.span-freed-requires
+span-freed-requires c =
     let l = ap length c.self.view_is in
     let inside : c.in-Some.index < length c.self.inside.pages.items = (let h = c.in-Some.ensures.inside in omega (arith, l, h)) in
     read_blocks c.self.inside.pages.items c.in-Some.index _ inside c.index_mut-page.ensures.value c.self.invariant
@@ -19,8 +19,8 @@ returns-then-not-is_empty-clause-gives c =
     kept c.self.inside.pages.items c.args.self.now c.in-Some.index c.args.at c.in-Some.place _ _ c.self.view_is c.in-Some.ensures.inside c.index_mut-page.ensures.value c.self.invariant c.in-Some.ensures.place c.in-Some.ensures.before c.remove-size.ensures.page
     c.remove-size.result (some_left _ _ c.is_empty.ensures c.if-not-is_empty.true) c.remove-size.ensures.size
 
-pub returns-then-not-is_empty-clause-back : goal.returns-then-not-is_empty-clause-back
-returns-then-not-is_empty-clause-back c = λ m whole together.
+pub returns-then-not-is_empty-clause-can : goal.returns-then-not-is_empty-clause-can
+returns-then-not-is_empty-clause-can c = λ m whole together.
     kept_is_together c.self.inside.pages.items c.args.self.now c.in-Some.index c.args.at c.in-Some.place _ _ c.self.view_is c.in-Some.ensures.inside c.index_mut-page.ensures.value c.self.invariant c.in-Some.ensures.place c.in-Some.ensures.before c.remove-size.ensures.page
     m (some_left _ _ c.is_empty.ensures c.if-not-is_empty.true) together
 
@@ -32,9 +32,9 @@ invariant_of-self-2 c =
 pub returns-clause-gives : goal.returns-clause-gives
 returns-clause-gives c =
     gone c.self.inside.pages.items c.args.self.now c.in-Some.index c.args.at c.in-Some.place _ _ c.self.view_is c.in-Some.ensures.inside c.index_mut-page.ensures.value c.self.invariant c.in-Some.ensures.place c.in-Some.ensures.before c.remove-size.ensures.page
-    _ c.remove-size.result _ _ (none_left _ _ c.is_empty.ensures c.if-not-is_empty.false) c.remove-size.ensures.size c.remove.ensures.items c.start.ensures c.pages.ensures
+    _ c.remove-size.result _ (none_left _ _ c.is_empty.ensures c.if-not-is_empty.false) c.remove-size.ensures.size c.remove.ensures.items c.span-freed.ensures
 
-pub returns-clause-back : goal.returns-clause-back
-returns-clause-back c = λ m whole together.
-    gone_gives c.self.inside.pages.items c.args.self.now c.in-Some.index c.args.at c.in-Some.place _ _ c.self.view_is c.in-Some.ensures.inside c.index_mut-page.ensures.value c.self.invariant c.in-Some.ensures.place c.in-Some.ensures.before c.remove-size.ensures.page
-    c.owned_are_freed.ensures _ m _ _ c.remove.ensures.items c.start.ensures c.pages.ensures whole together
+pub returns-clause-can : goal.returns-clause-can
+returns-clause-can c = λ m whole together.
+    gone_frees c.self.inside.pages.items c.args.self.now c.in-Some.index c.args.at c.in-Some.place _ _ c.self.view_is c.in-Some.ensures.inside c.index_mut-page.ensures.value c.self.invariant c.in-Some.ensures.place c.in-Some.ensures.before c.remove-size.ensures.page
+    c.owned_are_freed.ensures _ m _ c.remove.ensures.items c.span-freed.ensures whole together

@@ -1,4 +1,4 @@
--- Pages of the pool that are given back.
+-- Pages of the pool that are freed.
 use Rattle.std.proofs.Common.{◌≡◌, ℕ, zero, suc, ◌<◌, List, [], ◌∷◌, length, get_or, refl, arith, true, inl, inr, subst}
 use Rattle.std.specs.Prelude.{Option, Some, Ok, Err, remove}
 use Rattle.page_alloc.specs.declared.page.Owner.TheVariants.{Pool}
@@ -6,7 +6,8 @@ use Rattle.page_alloc.specs.Pages.{PageList, Whole, changed, conventional}
 use Rattle.page_alloc.specs.declared.page.PageRefusal.{PageRefusal}
 use Rattle.page_alloc.specs.Calls.{owns, freeing}
 use Rattle.page_alloc.specs.Laws.{OwnedAreFreed}
-use Rattle.pool_alloc.specs.Pool.{BlockPage, pages_of, IsPage, Apart, ApartFrom, IsPool, Together, BackGives}
+use Rattle.pool_alloc.specs.declared.span.PageSpan.{PageSpan}
+use Rattle.pool_alloc.specs.Pool.{BlockPage, pages_of, span_of, IsPage, Apart, ApartFrom, IsPool, Together, CanFree}
 use Rattle.pool_alloc.proofs.BlockLemmas.{some_pages}
 use Rattle.pool_alloc.proofs.PoolLemmas.{page_of}
 
@@ -36,7 +37,7 @@ own_there [] m i d h all = absurd (omega arith)
 own_there (p ∷ ps) m zero d h all = all.0
 own_there (p ∷ ps) m (suc i) d h all = own_there ps m i d (omega arith) all.1
 
--- a page stays the pool's where another one is given back
+-- a page stays the pool's where another one is freed
 module _ (freed : OwnedAreFreed) (m : PageList) (p : BlockPage) (whole : Whole m) (is_p : IsPage p) (owned_p : owns m Pool p.start (pages_of p.blocks) ≡ true) where
   pub is_freed : freeing m Pool p.start (pages_of p.blocks) ≡ Ok tt
   is_freed = (freed m Pool p.start (pages_of p.blocks) whole is_p.on_page (some_pages p.blocks is_p.blocks) owned_p).0
@@ -54,16 +55,16 @@ module _ (freed : OwnedAreFreed) (m : PageList) (p : BlockPage) (whole : Whole m
   rest_stays (q ∷ qs) (suc i) d h e all together =
       (stays q all.0 (subst (λ x. Apart q x) e (from_there q qs i d (omega arith) all.1)) together.0, rest_stays qs i d (omega arith) e all.2 together.1)
 
-pub back_gives : OwnedAreFreed → (pool : List BlockPage) (m : PageList) (i : ℕ) (d : BlockPage) → Whole m → i < length pool → IsPool pool → Together pool m
-    → BackGives (Some ((get_or pool i d).start, pages_of (get_or pool i d).blocks)) (remove pool i) m
-back_gives freed pool m i d whole h all together =
+pub can_free : OwnedAreFreed → (pool : List BlockPage) (m : PageList) (i : ℕ) (d : BlockPage) → Whole m → i < length pool → IsPool pool → Together pool m
+    → CanFree (Some (span_of (get_or pool i d))) (remove pool i) m
+can_free freed pool m i d whole h all together =
     let is = page_of pool i d all h in
     let owned = own_there pool m i d h together in
     (is_freed freed m (get_or pool i d) whole is owned, rest_stays freed m (get_or pool i d) whole is owned pool i d h refl all together)
 
--- what is given back is taken
-pub is_taken : (back : Option (ℕ × ℕ)) (start count : ℕ) (new : List BlockPage) (m : PageList) (refusal : PageRefusal) → back ≡ Some (start, count) → BackGives back new m → Err refusal ≡ freeing m Pool start count → ⊥
-is_taken back start count new m refusal e gives answer =
-    let given : BackGives (Some (start, count)) new m = subst (λ b. BackGives b new m) e gives in
-    let ok : freeing m Pool start count ≡ Ok tt = given.0 in
+-- what can be freed isn't refused
+pub not_refused : (freed : Option PageSpan) (span : PageSpan) (new : List BlockPage) (m : PageList) (refusal : PageRefusal) → freed ≡ Some span → CanFree freed new m → Err refusal ≡ freeing m Pool span.start span.count → ⊥
+not_refused freed span new m refusal e can answer =
+    let there : CanFree (Some span) new m = subst (λ f. CanFree f new m) e can in
+    let ok : freeing m Pool span.start span.count ≡ Ok tt = there.0 in
     cc
