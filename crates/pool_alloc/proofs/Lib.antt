@@ -8,4 +8,5 @@ pub mod TakeLemmas
 pub mod RestLemmas
 pub mod FreedLemmas
 pub mod TakingLemmas
+pub mod OthersLemmas
 pub mod LawLemmas

@@ -1,11 +1,14 @@
 -- What the definitions come to.
-use Rattle.std.specs.Prelude.{ℕ, ◌≡◌, ◌<◌, ◌≤◌, ◌+◌, ◌*◌, ◌%◌, true, false, List, length, slice_index_or, Option, Some, None}
+use Rattle.std.specs.Prelude.{ℕ, ◌≡◌, ◌<◌, ◌≤◌, ◌+◌, ◌*◌, ◌%◌, true, false, List, length, slice_index_or, Option, Some, None, Ok}
 use Rattle.pool_alloc.specs.declared.block.Block.{Block}
 use Rattle.pool_alloc.specs.Blocks.{has_room, lowest}
 use Rattle.page_alloc.specs.declared.page.Owner.TheVariants.{Pool}
-use Rattle.page_alloc.specs.Pages.{PageList, Whole}
+use Rattle.page_alloc.specs.declared.page.Page.{Page}
+use Rattle.page_alloc.specs.Pages.{PageList, Whole, page_at, is_conventional}
+use Rattle.page_alloc.specs.Calls.{is_same_owner}
 use Rattle.page_alloc.specs.Laws.{PageCall, after_call, is_release_by}
 use Rattle.pool_alloc.specs.Pool.{BlockPage, pages_of, Apart, IsPool, Together}
+use Rattle.pool_alloc.specs.Calls.{Done, pool_allocation, pool_freeing}
 
 -- An offset has room and no lower one has; or none has.
 abbrev pub IsLowest : List Block → ℕ → Option ℕ → Type 0
@@ -32,3 +35,10 @@ PoolIsApart = (pool : List BlockPage) → IsPool pool
 -- A pool and its pages stay together in each call on pages but the pool's own FreePages.
 abbrev pub PoolStaysTogether : Type 0
 PoolStaysTogether = (pool : List BlockPage) (m : PageList) (call : PageCall) → Whole m → IsPool pool → is_release_by Pool call ≡ false → Together pool m → Together pool (after_call m call)
+
+-- A call of the pool leaves the type and the owner of each page of others: AllocatePool of each page that isn't
+-- conventional, FreePool of each that isn't the pool's.
+abbrev pub PoolLeavesOthers : Type 0
+PoolLeavesOthers = (pool : List BlockPage) (m : PageList) (at : ℕ) (page : Page) (done : Done) → Whole m → IsPool pool → Together pool m → page_at m at ≡ Some page
+    → ((memory_type size : ℕ) → pool_allocation pool m memory_type size ≡ Ok done → is_conventional page ≡ false → page_at done.pages at ≡ Some page)
+    × ((block : ℕ) → pool_freeing pool m block ≡ Ok done → is_same_owner page.owner Pool ≡ false → page_at done.pages at ≡ Some page)

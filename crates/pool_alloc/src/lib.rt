@@ -11,7 +11,7 @@ mod span;
 mod tests;
 
 pub use block::Block;
-pub use laws::{lowest_is_lowest, pool_is_apart, pool_stays_together};
+pub use laws::{lowest_is_lowest, pool_is_apart, pool_leaves_others, pool_stays_together};
 pub use pool::Pool;
 pub use refusal::PoolRefusal;
 pub use span::PageSpan;
