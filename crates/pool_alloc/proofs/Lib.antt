@@ -6,6 +6,7 @@ pub mod NewPageLemmas
 pub mod PlacedLemmas
 pub mod TakeLemmas
 pub mod RestLemmas
+pub mod SkipLemmas
 pub mod FreedLemmas
 pub mod TakingLemmas
 pub mod OthersLemmas

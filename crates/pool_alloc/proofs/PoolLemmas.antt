@@ -147,7 +147,7 @@ pub read_none : (s pool : List BlockPage) (i t size : ℕ) → s ≡ pool → le
 read_none s pool i t size e h so_far = ap (λ ps. put_first ps t size) (sym e) ∙ sym so_far ∙ front_over s i t size h
 
 -- a page that is written at a place
-can_there : (s pool : List BlockPage) (i offset size : ℕ) (x : BlockPage) → s ≡ pool → i < length s → x ≡ get_or s i x → ((d : BlockPage) → CanPut (get_or pool i d).blocks offset size) → CanPut x.blocks offset size
+pub can_there : (s pool : List BlockPage) (i offset size : ℕ) (x : BlockPage) → s ≡ pool → i < length s → x ≡ get_or s i x → ((d : BlockPage) → CanPut (get_or pool i d).blocks offset size) → CanPut x.blocks offset size
 can_there s pool i offset size x e h is can = subst (λ (p : BlockPage). CanPut p.blocks offset size) (sym (read s pool i x x e h is)) (can x)
 
 pub write_fits : (s pool : List BlockPage) (i offset size : ℕ) (x : BlockPage) → s ≡ pool → i < length pool → x ≡ get_or s i x → IsPool s → ((d : BlockPage) → CanPut (get_or pool i d).blocks offset size) → x.start + offset ≤ 2 ^ 47

@@ -38,7 +38,7 @@ others_order page at low (suc place) d (b ∷ bs) order h here none =
     let first : begins_at page at b ≡ false = none 0 (omega arith) in
     rw first (ap (λ xs. b ∷ xs) (others_order page at (b.offset + b.size) place d bs order.5 (omega arith) here (λ k l. none (suc k) (omega arith))))
 
-order_weaker : (low high : ℕ) (blocks : List Block) → low ≤ high → InOrder high blocks → InOrder low blocks
+pub order_weaker : (low high : ℕ) (blocks : List Block) → low ≤ high → InOrder high blocks → InOrder low blocks
 order_weaker low high [] h order = tt
 order_weaker low high (b ∷ bs) h order = let from = order.0 in (omega arith, order.1, order.2, order.3, order.4, order.5)
 

@@ -106,6 +106,10 @@ abbrev pub AreBlocks : List Block → Type 0
 AreBlocks [] = ⊥
 AreBlocks (block ∷ blocks) = IsLarge block blocks ⊎ AreShared (block ∷ blocks)
 
+-- No gap among smaller blocks in order is longer.
+abbrev pub NoGapOver : ℕ → List Block → Type 0
+NoGapOver most blocks = AreShared blocks → (size : ℕ) → most < size → lowest blocks size ≡ None
+
 -- A block of so many bytes, at most half a page, may go to an offset among smaller blocks.
 pub record CanPut (blocks : List Block) (offset size : ℕ) : Type 0 where
   pub shared : AreShared blocks

@@ -1,9 +1,9 @@
 //! A page of the pool.
 #![tactic(auto)]
 
-ghost use Rattle.std.specs.Prelude.{◌≡◌, ◌<◌, ◌≤◌, ◌+◌, ◌==◌, ◌∷◌, ℕ, IfOk, OnOk, OnErr, length, [], insert, remove, position, slice_index_or, vec_len, vec_capacity};
+ghost use Rattle.std.specs.Prelude.{◌≡◌, ◌<◌, ◌≤◌, ◌+◌, ◌==◌, ◌∷◌, ℕ, IfOk, None, OnOk, OnErr, length, [], insert, remove, position, slice_index_or, vec_len, vec_capacity};
 ghost use Rattle.pool_alloc.specs.Blocks.{lowest, with_block};
-ghost use Rattle.pool_alloc.specs.Pool.{BlockPage, room_on, with_block_on, begins_at, span_of, is_shared, AreShared, AreBlocks};
+ghost use Rattle.pool_alloc.specs.Pool.{BlockPage, room_on, with_block_on, begins_at, span_of, is_shared, AreShared, AreBlocks, CanPut};
 
 use crate::block::{Block, pages_for};
 use crate::span::PageSpan;
@@ -16,20 +16,24 @@ pub const LARGEST: u64 = 2048;
 /// The bytes of a page.
 const PAGE: u64 = 4096;
 
-/// A page of the pool with its blocks, by offset.
+/// A page of the pool with its blocks, by offset. No gap is longer than `longest`, so that a search passes over a page
+/// that is full without a look at its blocks.
 #[derive(Drop)]
 pub struct PoolPage {
     start: u64,
     memory_type: u32,
     blocks: Vec<Block>,
+    longest: u64,
 }
 
 impl Model for PoolPage {
-    ghost use Rattle.pool_alloc.specs.Pool.{BlockPage};
+    ghost use Rattle.pool_alloc.specs.Pool.{BlockPage, NoGapOver};
 
     ghost Value = { BlockPage };
 
     ghost view = { λ p. record { start = p.start; memory_type = p.memory_type; blocks = p.blocks.items } };
+
+    ghost invariant = { λ p. NoGapOver p.longest p.blocks.items };
 }
 
 /// The lowest gap for so many bytes between blocks in order.
@@ -47,6 +51,20 @@ fn lowest_gap(blocks: &[Block], size: u64) -> Option<u64>
         end = block.offset + block.size;
     }
     if PAGE - end >= size { Some(end) } else { None }
+}
+
+/// The length of the longest gap between blocks in order.
+fn longest_gap(blocks: &[Block]) -> u64
+    requires { AreShared blocks.now }
+    ensures { (size : ℕ) → result < size → lowest blocks.now size ≡ None }
+{
+    let mut end = 0;
+    let mut longest = 0;
+    for block in blocks {
+        longest = longest.max(block.offset - end);
+        end = block.offset + block.size;
+    }
+    longest.max(PAGE - end)
 }
 
 /// The place among blocks by offset of a block that begins at an offset where none does.
@@ -74,6 +92,7 @@ impl PoolPage {
             start,
             memory_type,
             blocks,
+            longest: PAGE,
         }
     }
 
@@ -106,24 +125,36 @@ impl PoolPage {
         if !self.is_shared() {
             return None;
         }
+        if size > self.longest {
+            return None;
+        }
         lowest_gap(self.blocks.as_slice(), size)
     }
 
     /// Puts a block into a gap.
     pub fn put(&mut self, offset: u64, size: u64) -> Result<(), AllocError>
+        requires { CanPut self.old.blocks offset size }
         ensures ok { OnOk result (self.new ≡ with_block_on self.old offset size) }
         ensures err { OnErr result (self.new ≡ self.old) }
     {
         let place = place_of(self.blocks.as_slice(), offset);
         self.blocks.insert(place, Block { offset, size })?;
+        self.longest = longest_gap(self.blocks.as_slice());
         Ok(())
     }
 
     /// The place of the block that begins at an address.
     pub fn position(&self, at: u64) -> Option<usize>
+        requires { AreBlocks self.now.blocks }
         ensures { result ≡ position (begins_at self.now at) self.now.blocks }
     {
         let start = self.start;
+        if at < start {
+            return None;
+        }
+        if at - start >= PAGE {
+            return None;
+        }
         self.blocks
             .iter()
             .position(|block| block.begins_at(start, at))
@@ -131,11 +162,13 @@ impl PoolPage {
 
     /// Takes the block at a place out, and answers its size.
     pub fn remove(&mut self, place: usize) -> u64
-        requires { place < length self.old.blocks }
+        requires place { place < length self.old.blocks }
+        requires blocks { AreBlocks self.old.blocks }
         ensures size { (d : Block) → result ≡ (slice_index_or self.old.blocks place d).size }
         ensures page { self.new ≡ record self.old { blocks = remove self.old.blocks place } }
     {
         let block = self.blocks.remove(place);
+        self.longest = longest_gap(self.blocks.as_slice());
         block.size
     }
 
@@ -172,6 +205,7 @@ impl PoolPage {
             start: self.start,
             memory_type: self.memory_type,
             blocks: Vec::from_slice(*self.blocks.allocator(), self.blocks.as_slice())?,
+            longest: self.longest,
         })
     }
 }

@@ -1,6 +1,10 @@
 use Rattle.std.proofs.Common.{◌∙◌, sym}
+use Rattle.pool_alloc.proofs.PoolLemmas.{read_blocks}
 use Rattle.pool_alloc.proofs.TakeLemmas.{behind_more, behind_over, behind_there}
 use Rattle.pool_alloc.proofs.pool.Pool.find.Goals as goal
+
+pub position-requires : goal.position-requires
+position-requires c = read_blocks _ c.loop-index.index _ c.loop-index-test.true c.page-item.is (rw c.deref-page-items.ensures.value c.self.invariant)
 
 pub returns-in-Some-clause-place : goal.returns-in-Some-clause-place
 returns-in-Some-clause-place c = λ d.

@@ -9,6 +9,12 @@ span-freed-requires c =
     let inside : c.in-Some.index < length c.self.inside.pages.items = (let h = c.in-Some.ensures.inside in omega (arith, l, h)) in
     read_blocks c.self.inside.pages.items c.in-Some.index _ inside c.index_mut-page.ensures.value c.self.invariant
 
+pub remove-size-requires-clause-blocks : goal.remove-size-requires-clause-blocks
+remove-size-requires-clause-blocks c =
+    let l = ap length c.self.view_is in
+    let inside : c.in-Some.index < length c.self.inside.pages.items = (let h = c.in-Some.ensures.inside in omega (arith, l, h)) in
+    read_blocks c.self.inside.pages.items c.in-Some.index _ inside c.index_mut-page.ensures.value c.self.invariant
+
 pub invariant_of-self : goal.invariant_of-self
 invariant_of-self c =
     kept_is_pool c.self.inside.pages.items c.args.self.now c.in-Some.index c.args.at c.in-Some.place _ _ c.self.view_is c.in-Some.ensures.inside c.index_mut-page.ensures.value c.self.invariant c.in-Some.ensures.place c.in-Some.ensures.before c.remove-size.ensures.page
