@@ -21,8 +21,8 @@ shared_pages (b ∷ bs) shared = one_page b.size shared.order.1 (not_large b.siz
 
 put_in_order : (blocks : List Block) (low : ℕ) (b : Block) → InOrder low blocks → Free blocks b.size b.offset → low ≤ b.offset → 0 < b.size → b.offset % 8 ≡ 0 → b.size % 8 ≡ 0 → b.offset + b.size ≤ 4096
     → InOrder low (with_block b blocks)
-put_in_order [] low b order free from some units sizes end = (from, some, units, sizes, end, tt)
-put_in_order (x ∷ xs) low b order free from some units sizes end = by (nat_lt b.offset x.offset) refl (λ after. put_in_order xs (x.offset + x.size) b order.5 free.1 after some units sizes end)
+put_in_order [] low b order free from some aligned by_eight end = (from, some, aligned, by_eight, end, tt)
+put_in_order (x ∷ xs) low b order free from some aligned by_eight end = by (nat_lt b.offset x.offset) refl (λ after. put_in_order xs (x.offset + x.size) b order.5 free.1 after some aligned by_eight end)
   where
     by : (t : Bool) → nat_lt b.offset x.offset ≡ t → (x.offset + x.size ≤ b.offset → InOrder (x.offset + x.size) (with_block b xs))
         → InOrder low (if t then b ∷ x ∷ xs else x ∷ with_block b xs)
@@ -30,7 +30,7 @@ put_in_order (x ∷ xs) low b order free from some units sizes end = by (nat_lt 
         let first : b.offset < x.offset = grind (arith, nat_tests) in
         let size = order.1 in
         let before : b.offset + b.size ≤ x.offset = elim (free.0) [ inl p ↦ p | inr p ↦ absurd (omega arith) ] in
-        (from, some, units, sizes, end, (before, order.1, order.2, order.3, order.4, order.5))
+        (from, some, aligned, by_eight, end, (before, order.1, order.2, order.3, order.4, order.5))
     by false e rest =
         let later : x.offset ≤ b.offset = grind (arith, nat_tests) in
         let after : x.offset + x.size ≤ b.offset = elim (free.0) [ inl p ↦ absurd (omega arith) | inr p ↦ p ] in
@@ -53,7 +53,7 @@ put_is_shared blocks offset size can =
     let small : is_large size ≡ false = grind (arith, nat_tests) in
     record {
       shared = put_shared blocks (record { offset = offset; size = size }) can.shared.shared small;
-      order = put_in_order blocks 0 (record { offset = offset; size = size }) can.shared.order room.free (omega arith) can.some can.units can.sizes room.ends;
+      order = put_in_order blocks 0 (record { offset = offset; size = size }) can.shared.order room.free (omega arith) can.some can.aligned can.rounded room.ends;
     }
 
 -- blocks that are there
@@ -76,20 +76,20 @@ pub put_pages : (blocks : List Block) (offset size : ℕ) → CanPut blocks offs
 put_pages blocks offset size can = shared_pages (with_block (record { offset = offset; size = size }) blocks) (put_is_shared blocks offset size can) ∙ sym (shared_pages blocks can.shared)
 
 -- the lowest gap begins at a whole unit
-gap_units : (blocks : List Block) (low size n : ℕ) → InOrder low blocks → low % 8 ≡ 0 → gap_from low blocks size ≡ Some n → n % 8 ≡ 0
-gap_units [] low size n order units e = by (nat_le (low + size) 4096) e
+gap_aligned : (blocks : List Block) (low size n : ℕ) → InOrder low blocks → low % 8 ≡ 0 → gap_from low blocks size ≡ Some n → n % 8 ≡ 0
+gap_aligned [] low size n order aligned e = by (nat_le (low + size) 4096) e
   where
     by : (t : Bool) → (if t then Some low else None) ≡ Some n → n % 8 ≡ 0
-    by true h = let same : low ≡ n = cc in rw (← same) units
+    by true h = let same : low ≡ n = cc in rw (← same) aligned
     by false h = absurd (cc)
-gap_units (b ∷ bs) low size n order units e = by (nat_le (low + size) b.offset) e (λ h. let o = order.2 in let s = order.3 in gap_units bs (b.offset + b.size) size n order.5 (omega arith) h)
+gap_aligned (b ∷ bs) low size n order aligned e = by (nat_le (low + size) b.offset) e (λ h. let o = order.2 in let s = order.3 in gap_aligned bs (b.offset + b.size) size n order.5 (omega arith) h)
   where
     by : (t : Bool) → (if t then Some low else gap_from (b.offset + b.size) bs size) ≡ Some n → (gap_from (b.offset + b.size) bs size ≡ Some n → n % 8 ≡ 0) → n % 8 ≡ 0
-    by true h rest = let same : low ≡ n = cc in rw (← same) units
+    by true h rest = let same : low ≡ n = cc in rw (← same) aligned
     by false h rest = rest h
 
-pub lowest_units : (blocks : List Block) (size n : ℕ) → 0 < size → AreShared blocks → lowest blocks size ≡ Some n → n % 8 ≡ 0
-lowest_units blocks size n some shared e = gap_units blocks 0 size n shared.order (omega arith) (gap_is_lowest blocks size some shared ∙ e)
+pub lowest_aligned : (blocks : List Block) (size n : ℕ) → 0 < size → AreShared blocks → lowest blocks size ≡ Some n → n % 8 ≡ 0
+lowest_aligned blocks size n some shared e = gap_aligned blocks 0 size n shared.order (omega arith) (gap_is_lowest blocks size some shared ∙ e)
 
 -- shared blocks of the pool
 pub is_shared_page : (blocks : List Block) → AreBlocks blocks → is_shared blocks ≡ true → AreShared blocks

@@ -19,18 +19,18 @@ lowest_is_lowest blocks size some = lowest_by blocks size (lowest blocks size) (
 -- blocks in order
 record Lies (low : ℕ) (b : Block) : Type 0 where
   from : low ≤ b.offset
-  units : b.offset % 8 ≡ 0
-  sizes : b.size % 8 ≡ 0
+  aligned : b.offset % 8 ≡ 0
+  rounded : b.size % 8 ≡ 0
   inside : b.offset + b.size ≤ 4096
 
 lies : (blocks : List Block) (low i : ℕ) (d : Block) → InOrder low blocks → i < length blocks → Lies low (get_or blocks i d)
 lies [] low i d order h = absurd (omega arith)
-lies (b ∷ bs) low zero d order h = record { from = order.0; units = order.2; sizes = order.3; inside = order.4 }
+lies (b ∷ bs) low zero d order h = record { from = order.0; aligned = order.2; rounded = order.3; inside = order.4 }
 lies (b ∷ bs) low (suc i) d order h =
     let l = lies bs (b.offset + b.size) i d order.5 (omega arith) in
     let begins = order.0 in
     let from = l.from in
-    record { from = omega arith; units = l.units; sizes = l.sizes; inside = l.inside }
+    record { from = omega arith; aligned = l.aligned; rounded = l.rounded; inside = l.inside }
 
 in_order : (blocks : List Block) (low i j : ℕ) (d : Block) → InOrder low blocks → i < j → j < length blocks → (get_or blocks i d).offset + (get_or blocks i d).size ≤ (get_or blocks j d).offset
 in_order [] low i j d order l h = absurd (omega arith)
@@ -42,8 +42,8 @@ shared_apart : (start t : ℕ) (blocks : List Block) → AreShared blocks → Ar
 shared_apart start t blocks shared =
     let one = shared_pages blocks shared in
     record {
-      units = λ i d h. (lies blocks 0 i d shared.order h).units;
-      sizes = λ i d h. (lies blocks 0 i d shared.order h).sizes;
+      aligned = λ i d h. (lies blocks 0 i d shared.order h).aligned;
+      rounded = λ i d h. (lies blocks 0 i d shared.order h).rounded;
       inside = λ i d h. (let l = (lies blocks 0 i d shared.order h).inside in omega (arith, l, one));
       apart = λ i j d l h. in_order blocks 0 i j d shared.order l h;
     }
@@ -52,21 +52,21 @@ large_apart : (start t : ℕ) (b : Block) (bs : List Block) → bs ≡ [] → Is
 large_apart start t b (c ∷ cs) none large = absurd (cc)
 large_apart start t b [] none large =
     let first = large.first in
-    let units = large.units in
+    let rounded = large.rounded in
     record {
-      units = one_units;
-      sizes = one_sizes;
+      aligned = one_aligned;
+      rounded = one_rounded;
       inside = one_inside;
       apart = λ i j d l h. absurd (omega arith);
     }
   where
-    one_units : (i : ℕ) (d : Block) → i < 1 → (get_or (b ∷ []) i d).offset % 8 ≡ 0
-    one_units zero d h = let first = large.first in omega arith
-    one_units (suc i) d h = absurd (omega arith)
+    one_aligned : (i : ℕ) (d : Block) → i < 1 → (get_or (b ∷ []) i d).offset % 8 ≡ 0
+    one_aligned zero d h = let first = large.first in omega arith
+    one_aligned (suc i) d h = absurd (omega arith)
 
-    one_sizes : (i : ℕ) (d : Block) → i < 1 → (get_or (b ∷ []) i d).size % 8 ≡ 0
-    one_sizes zero d h = large.units
-    one_sizes (suc i) d h = absurd (omega arith)
+    one_rounded : (i : ℕ) (d : Block) → i < 1 → (get_or (b ∷ []) i d).size % 8 ≡ 0
+    one_rounded zero d h = large.rounded
+    one_rounded (suc i) d h = absurd (omega arith)
 
     one_inside : (i : ℕ) (d : Block) → i < 1 → (get_or (b ∷ []) i d).offset + (get_or (b ∷ []) i d).size ≤ 4096 * ((b.size + 4095) / 4096)
     one_inside zero d h = let first = large.first in omega arith

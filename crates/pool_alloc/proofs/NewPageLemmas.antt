@@ -22,8 +22,8 @@ rounded_some size = by (size == 0) refl
     by true e = omega arith
     by false e = let some : size ≢ 0 = grind (arith, nat_tests) in omega (arith, some)
 
-pub rounded_units : (size : ℕ) → rounded size % 8 ≡ 0
-rounded_units size = by (size == 0)
+pub rounded_by_eight : (size : ℕ) → rounded size % 8 ≡ 0
+rounded_by_eight size = by (size == 0)
   where
     by : (b : Bool) → (if b then 8 else (size + 7) / 8 * 8) % 8 ≡ 0
     by true = omega arith
@@ -55,15 +55,15 @@ abbrev pub new_page : ℕ → ℕ → ℕ → BlockPage
 new_page start t size = record { start = start; memory_type = t; blocks = record { offset = 0; size = size } ∷ [] }
 
 new_blocks : (size : ℕ) → 0 < size → size % 8 ≡ 0 → (b : Bool) → is_large size ≡ b → AreBlocks (record { offset = 0; size = size } ∷ [])
-new_blocks size some units true large = inl (record { large = large; first = refl; units = units; alone = refl })
-new_blocks size some units false small = inr (record {
+new_blocks size some by_eight true large = inl (record { large = large; first = refl; rounded = by_eight; alone = refl })
+new_blocks size some by_eight false small = inr (record {
   shared = rw small refl;
-  order = (let l : size ≤ 2048 = grind (arith, nat_tests) in (omega arith, some, omega arith, units, omega arith, tt));
+  order = (let l : size ≤ 2048 = grind (arith, nat_tests) in (omega arith, some, omega arith, by_eight, omega arith, tt));
 })
 
 new_is_page : (m : PageList) (start t size : ℕ) → Whole m → 0 < size → size % 8 ≡ 0 → IsGiven m start (pages_for size) → IsPage (new_page start t size)
-new_is_page m start t size whole some units g = record {
-  blocks = new_blocks size some units (is_large size) refl;
+new_is_page m start t size whole some by_eight g = record {
+  blocks = new_blocks size some by_eight (is_large size) refl;
   on_page = g.on_page;
   end = (let high = g.high in let end = whole.ram.end in omega (arith, high, end));
 }
@@ -81,9 +81,9 @@ new_pages s pool r zs x start t size n e f g h k =
     g ∙ ap (λ ps. ps ++ x ∷ []) (f ∙ e) ∙ ap (λ q. pool ++ q ∷ []) (h ∙ ap (λ c. new_page start t c) k)
 
 pub add_pool : (pool : List BlockPage) (m : PageList) (start t size : ℕ) → Whole m → 0 < size → size % 8 ≡ 0 → IsGiven m start (pages_for size) → IsPool pool → Together pool m → IsPool (pool ++ new_page start t size ∷ [])
-add_pool [] m start t size whole some units g all together = (new_is_page m start t size whole some units g, tt, tt)
-add_pool (p ∷ ps) m start t size whole some units g all together =
-    (all.0, from_add p (new_page start t size) ps all.1 (old_new m p start t size all.0 together.0 g), add_pool ps m start t size whole some units g all.2 together.1)
+add_pool [] m start t size whole some by_eight g all together = (new_is_page m start t size whole some by_eight g, tt, tt)
+add_pool (p ∷ ps) m start t size whole some by_eight g all together =
+    (all.0, from_add p (new_page start t size) ps all.1 (old_new m p start t size all.0 together.0 g), add_pool ps m start t size whole some by_eight g all.2 together.1)
 
 together_add : (pool : List BlockPage) (m : PageList) (p : BlockPage) → Together pool m → owns m Pool p.start (pages_of p.blocks) ≡ true → Together (pool ++ p ∷ []) m
 together_add [] m p together owned = (owned, tt)
@@ -115,7 +115,7 @@ module _ (given : GivenAreOwned) (m : PageList) (t size k n start : ℕ) (whole 
   -- the pool behind it
   pub added_pool : (s pool r zs : List BlockPage) (x : BlockPage) (c : ℕ) → s ≡ pool → r ≡ s → zs ≡ r ++ x ∷ [] → x ≡ new_page start t c → c ≡ rounded size → IsPool s → Together pool m → IsPool zs
   added_pool s pool r zs x c a b d g i all together =
-      subst IsPool (sym (new_pages s pool r zs x start t size c a b d g i)) (add_pool pool m start t (rounded size) whole (rounded_some size) (rounded_units size) add_given (subst IsPool a all) together)
+      subst IsPool (sym (new_pages s pool r zs x start t size c a b d g i)) (add_pool pool m start t (rounded size) whole (rounded_some size) (rounded_by_eight size) add_given (subst IsPool a all) together)
 
   pub added_together : OwnedStay → (s pool r zs : List BlockPage) (x : BlockPage) (m' : PageList) (c : ℕ) → s ≡ pool → r ≡ s → zs ≡ r ++ x ∷ [] → x ≡ new_page start t c → c ≡ rounded size
       → IsPool s → Together pool m → m' ≡ changed m start n (record { memory_type = t; owner = Pool }) → Together zs m'

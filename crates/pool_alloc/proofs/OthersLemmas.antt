@@ -15,7 +15,7 @@ use Rattle.pool_alloc.specs.declared.refusal.PoolRefusal.{PoolRefusal}
 use Rattle.pool_alloc.specs.declared.refusal.PoolRefusal.TheVariants.{Invalid}
 use Rattle.pool_alloc.specs.Blocks.{rounded, pages_for}
 use Rattle.pool_alloc.specs.Pool.{BlockPage, Placed, Taken, begins_at, without, left_of, take_on, take_first, IsPool, Together}
-use Rattle.pool_alloc.specs.Calls.{Done, on_pages, on_page, gap_for, pool_allocation, freed, freed_by, with_freed, pool_freeing}
+use Rattle.pool_alloc.specs.Calls.{Done, on_pages, on_page, gap_for, pool_allocation, on_taken, freed_by, with_freed, pool_freeing}
 use Rattle.pool_alloc.specs.Laws.{PoolLeavesOthers}
 use Rattle.pool_alloc.proofs.FreedLemmas.{is_freed}
 
@@ -70,7 +70,7 @@ module _ (leave : CallsLeaveOthers) (pool : List BlockPage) (m : PageList) (at :
   unfolding pool_freeing
   taken_back block f e other = by (take_first pool block) f e
     where
-      by : (o : Option Taken) → Frees m (freed_by o) → freed m o ≡ Ok done → page_at done.pages at ≡ Some page
+      by : (o : Option Taken) → Frees m (freed_by o) → on_taken m o ≡ Ok done → page_at done.pages at ≡ Some page
       by None f h = absurd (cc)
       by (Some taken) f h = subst (λ n. page_at n at ≡ Some page) (pages_is _ refl h) (by_span other taken.freed f)
 

@@ -23,13 +23,13 @@ pub placed_gives : (pool new : List BlockPage) (m : PageList) (t size n index of
     → ((d : BlockPage) → at ≡ (get_or pool index d).start + offset) → ((d : BlockPage) → new ≡ slice_set pool index (with_block_on (get_or pool index d) offset n))
     → pool_allocation pool m t size ≡ Ok (record { answer = at; pool = new; pages = m })
 unfolding pool_allocation
-placed_gives pool new m t size n index offset at known small units placed there behind =
+placed_gives pool new m t size n index offset at known small is_rounded placed there behind =
     let gap : gap_for pool t (rounded size) ≡ Some (record { at = at; pages = new })
-    = gap_small pool t size n small units ∙ placed blank ∙ ap (λ a. Some (record { at = a; pages = slice_set pool index (with_block_on (get_or pool index blank) offset n) })) (sym (there blank)) ∙ ap (λ ps. Some (record { at = at; pages = ps })) (sym (behind blank)) in
+    = gap_small pool t size n small is_rounded ∙ placed blank ∙ ap (λ a. Some (record { at = a; pages = slice_set pool index (with_block_on (get_or pool index blank) offset n) })) (sym (there blank)) ∙ ap (λ ps. Some (record { at = at; pages = ps })) (sym (behind blank)) in
     rw known (ap (λ o. on_page pool m t (rounded size) o) gap)
 
 pub no_pages : (pool : List BlockPage) (m : PageList) (t size n index offset : ℕ) → may_be_given t ≡ true → size ≤ 2048 → n ≡ rounded size
     → ((d : BlockPage) → put_first pool t n ≡ Some (record { at = (get_or pool index d).start + offset; pages = slice_set pool index (with_block_on (get_or pool index d) offset n) }))
     → pages_allocated pool m t size ≡ None
 unfolding pages_allocated
-no_pages pool m t size n index offset known small units placed = rw known (rw (gap_small pool t size n small units ∙ placed blank) refl)
+no_pages pool m t size n index offset known small is_rounded placed = rw known (rw (gap_small pool t size n small is_rounded ∙ placed blank) refl)

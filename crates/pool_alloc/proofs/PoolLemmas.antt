@@ -6,9 +6,9 @@ use Rattle.page_alloc.specs.declared.page.Owner.TheVariants.{Pool}
 use Rattle.page_alloc.specs.Pages.{PageList}
 use Rattle.page_alloc.specs.Calls.{owns}
 use Rattle.pool_alloc.specs.Blocks.{lowest}
-use Rattle.pool_alloc.specs.Pool.{BlockPage, Placed, room_on, put_on, put_first, with_block_on, is_shared, pages_of, AreBlocks, IsPage, CanPut, Apart, ApartFrom, IsPool, Together}
+use Rattle.pool_alloc.specs.Pool.{BlockPage, Placed, gap_on, put_on, put_first, with_block_on, is_shared, pages_of, AreBlocks, IsPage, CanPut, Apart, ApartFrom, IsPool, Together}
 use Rattle.pool_alloc.proofs.GapLemmas.{and_true, room_tells}
-use Rattle.pool_alloc.proofs.BlockLemmas.{shared_pages, put_blocks, put_pages, lowest_room, lowest_units, is_shared_page}
+use Rattle.pool_alloc.proofs.BlockLemmas.{shared_pages, put_blocks, put_pages, lowest_room, lowest_aligned, is_shared_page}
 
 -- a page of a pool
 pub page_of : (pool : List BlockPage) (i : ℕ) (d : BlockPage) → IsPool pool → i < length pool → IsPage (get_or pool i d)
@@ -30,7 +30,7 @@ over_page before page pages size None = refl
 over_page before page pages size (Some placed) = ap (λ ps. Some (record { at = placed.at; pages = ps })) (sym (append_assoc before (page ∷ []) placed.pages))
 
 -- a page without a gap is passed over
-pub front_more : (pool : List BlockPage) (i t size : ℕ) (d : BlockPage) → i < length pool → room_on (get_or pool i d) t size ≡ None
+pub front_more : (pool : List BlockPage) (i t size : ℕ) (d : BlockPage) → i < length pool → gap_on (get_or pool i d) t size ≡ None
     → front (take i pool) (put_first (drop i pool) t size) ≡ front (take (i + 1) pool) (put_first (drop (i + 1) pool) t size)
 unfolding put_first
 front_more pool i t size d h none =
@@ -43,7 +43,7 @@ unfolding put_first
 front_over pool i t size h = ap (λ o. front (take i pool) o) (at_drop_all (λ ps. put_first ps t size) pool i h)
 
 -- a page with a gap takes the block
-pub front_here : (pool : List BlockPage) (i t size offset : ℕ) (d : BlockPage) → i < length pool → room_on (get_or pool i d) t size ≡ Some offset
+pub front_here : (pool : List BlockPage) (i t size offset : ℕ) (d : BlockPage) → i < length pool → gap_on (get_or pool i d) t size ≡ Some offset
     → front (take i pool) (put_first (drop i pool) t size) ≡ Some (record { at = (get_or pool i d).start + offset; pages = slice_set pool i (with_block_on (get_or pool i d) offset size) })
 unfolding put_first
 front_here pool i t size offset d h found =
@@ -53,14 +53,14 @@ front_here pool i t size offset d h found =
     (ap (λ n. take i pool ++ with_block_on (get_or pool i d) offset size ∷ drop n pool) next ∙ sym (set_split pool i (with_block_on (get_or pool i d) offset size) h))
 
 -- a gap that was found may be taken
-pub can_put : (page : BlockPage) (t size offset : ℕ) → IsPage page → 0 < size → size ≤ 2048 → size % 8 ≡ 0 → room_on page t size ≡ Some offset → CanPut page.blocks offset size
-unfolding room_on
-can_put page t size offset is some small units e = by (page.memory_type == t && is_shared page.blocks) refl e
+pub can_put : (page : BlockPage) (t size offset : ℕ) → IsPage page → 0 < size → size ≤ 2048 → size % 8 ≡ 0 → gap_on page t size ≡ Some offset → CanPut page.blocks offset size
+unfolding gap_on
+can_put page t size offset is some small by_eight e = by (page.memory_type == t && is_shared page.blocks) refl e
   where
     by : (b : Bool) → (page.memory_type == t && is_shared page.blocks) ≡ b → (if b then lowest page.blocks size else None) ≡ Some offset → CanPut page.blocks offset size
     by true h found =
         let shared = is_shared_page page.blocks is.blocks (and_true (page.memory_type == t) (is_shared page.blocks) h).1 in
-        record { shared = shared; room = lowest_room page.blocks size offset some found; some = some; small = small; units = lowest_units page.blocks size offset some shared found; sizes = units }
+        record { shared = shared; room = lowest_room page.blocks size offset some found; some = some; small = small; aligned = lowest_aligned page.blocks size offset some shared found; rounded = by_eight }
     by false h found = absurd (cc)
 
 -- a page with other blocks in its place
@@ -126,22 +126,22 @@ read s pool i x d e h is = is ∙ get_or_default s i x d h ∙ ap (λ ps. get_or
 pub read_page : (s pool : List BlockPage) (i : ℕ) (x : BlockPage) → s ≡ pool → i < length s → x ≡ get_or s i x → IsPool pool → IsPage x
 read_page s pool i x e h is all = subst IsPage (sym (read s pool i x x e h is)) (page_of pool i x all (let l = ap length e in omega (arith, l)))
 
-pub read_can : (s pool : List BlockPage) (i t size offset : ℕ) (x d : BlockPage) → s ≡ pool → i < length s → x ≡ get_or s i x → IsPool pool → 0 < size → size ≤ 2048 → size % 8 ≡ 0 → room_on x t size ≡ Some offset
+pub read_can : (s pool : List BlockPage) (i t size offset : ℕ) (x d : BlockPage) → s ≡ pool → i < length s → x ≡ get_or s i x → IsPool pool → 0 < size → size ≤ 2048 → size % 8 ≡ 0 → gap_on x t size ≡ Some offset
     → CanPut (get_or pool i d).blocks offset size
-read_can s pool i t size offset x d e h is all some small units found =
-    subst (λ (p : BlockPage). CanPut p.blocks offset size) (read s pool i x d e h is) (can_put x t size offset (read_page s pool i x e h is all) some small units found)
+read_can s pool i t size offset x d e h is all some small by_eight found =
+    subst (λ (p : BlockPage). CanPut p.blocks offset size) (read s pool i x d e h is) (can_put x t size offset (read_page s pool i x e h is all) some small by_eight found)
 
-pub read_here : (s pool : List BlockPage) (i t size offset : ℕ) (x d : BlockPage) → s ≡ pool → i < length s → x ≡ get_or s i x → room_on x t size ≡ Some offset
+pub read_here : (s pool : List BlockPage) (i t size offset : ℕ) (x d : BlockPage) → s ≡ pool → i < length s → x ≡ get_or s i x → gap_on x t size ≡ Some offset
     → front (take i s) (put_first (drop i s) t size) ≡ put_first s t size
     → put_first pool t size ≡ Some (record { at = (get_or pool i d).start + offset; pages = slice_set pool i (with_block_on (get_or pool i d) offset size) })
 read_here s pool i t size offset x d e h is found so_far =
-    let room : room_on (get_or pool i d) t size ≡ Some offset = ap (λ p. room_on p t size) (sym (read s pool i x d e h is)) ∙ found in
+    let room : gap_on (get_or pool i d) t size ≡ Some offset = ap (λ p. gap_on p t size) (sym (read s pool i x d e h is)) ∙ found in
     let walk : front (take i pool) (put_first (drop i pool) t size) ≡ put_first pool t size = subst (λ ps. front (take i ps) (put_first (drop i ps) t size) ≡ put_first ps t size) e so_far in
     sym walk ∙ front_here pool i t size offset d (let l = ap length e in omega (arith, l)) room
 
-pub read_more : (s : List BlockPage) (i t size : ℕ) (x : BlockPage) → i < length s → x ≡ get_or s i x → room_on x t size ≡ None
+pub read_more : (s : List BlockPage) (i t size : ℕ) (x : BlockPage) → i < length s → x ≡ get_or s i x → gap_on x t size ≡ None
     → front (take i s) (put_first (drop i s) t size) ≡ put_first s t size → front (take (i + 1) s) (put_first (drop (i + 1) s) t size) ≡ put_first s t size
-read_more s i t size x h is none so_far = sym (front_more s i t size x h (ap (λ p. room_on p t size) (sym is) ∙ none)) ∙ so_far
+read_more s i t size x h is none so_far = sym (front_more s i t size x h (ap (λ p. gap_on p t size) (sym is) ∙ none)) ∙ so_far
 
 pub read_none : (s pool : List BlockPage) (i t size : ℕ) → s ≡ pool → length s ≤ i → front (take i s) (put_first (drop i s) t size) ≡ put_first s t size → put_first pool t size ≡ None
 read_none s pool i t size e h so_far = ap (λ ps. put_first ps t size) (sym e) ∙ sym so_far ∙ front_over s i t size h

@@ -7,7 +7,7 @@ use Rattle.std.proofs.lemmas.List.{at_drop_more}
 use Rattle.std.proofs.lemmas.List.Quantifiers.{position-Some}
 use Rattle.pool_alloc.specs.declared.block.Block.{Block}
 use Rattle.pool_alloc.specs.Blocks.{lowest, is_large, with_block}
-use Rattle.pool_alloc.specs.Pool.{BlockPage, begins_at, room_on, is_shared, InOrder, AreShared, AreBlocks, CanPut, NoGapOver}
+use Rattle.pool_alloc.specs.Pool.{BlockPage, begins_at, gap_on, is_shared, InOrder, AreShared, AreBlocks, CanPut, NoGapOver}
 use Rattle.pool_alloc.proofs.GapLemmas.{IsLeast, Gap, lowest_is, gap_from, gap_is_lowest, gap_none, and_true}
 use Rattle.pool_alloc.proofs.BlockLemmas.{is_shared_page, put_is_shared}
 use Rattle.pool_alloc.proofs.RestLemmas.{order_weaker}
@@ -39,8 +39,8 @@ all_over blocks i end longest most is h low shared so_far size over =
     sym (gap_is_lowest blocks size (omega arith) shared) ∙ sym (so_far size (omega arith)) ∙ gap_none blocks i end size h low (omega arith)
 
 -- so a page whose gaps are all shorter has no room
-pub no_room : (page : BlockPage) (t size most : ℕ) → AreBlocks page.blocks → is_shared page.blocks ≡ true → NoGapOver most page.blocks → most < size → None ≡ room_on page t size
-unfolding room_on
+pub no_room : (page : BlockPage) (t size most : ℕ) → AreBlocks page.blocks → is_shared page.blocks ≡ true → NoGapOver most page.blocks → most < size → None ≡ gap_on page t size
+unfolding gap_on
 no_room page t size most blocks shared none over = by (page.memory_type == t && is_shared page.blocks)
   where
     by : (b : Bool) → None ≡ (if b then lowest page.blocks size else None)

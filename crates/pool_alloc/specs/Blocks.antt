@@ -4,7 +4,7 @@ use Rattle.std.specs.List.{list_all}
 use Rattle.std.specs.Option.{option_or}
 use Rattle.pool_alloc.specs.declared.block.Block.{Block}
 
--- a size in whole units of 8 bytes, at least one
+-- a size rounded up to a multiple of 8, and 0 to 8
 abbrev pub rounded : ℕ → ℕ
 rounded size = if size == 0 then 8 else (size + 7) / 8 * 8
 

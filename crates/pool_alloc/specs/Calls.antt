@@ -73,9 +73,9 @@ abbrev pub with_freed : PageList → Option PageSpan → PageList
 with_freed m None = m
 with_freed m (Some span) = changed m span.start span.count conventional
 
-abbrev pub freed : PageList → Option Taken → Result Done PoolRefusal
-freed m None = Err Invalid
-freed m (Some taken) = Ok (record { answer = taken.size; pool = taken.pages; pages = with_freed m taken.freed })
+abbrev pub on_taken : PageList → Option Taken → Result Done PoolRefusal
+on_taken m None = Err Invalid
+on_taken m (Some taken) = Ok (record { answer = taken.size; pool = taken.pages; pages = with_freed m taken.freed })
 
 abbrev pub freed_by : Option Taken → Option PageSpan
 freed_by None = None
@@ -87,7 +87,7 @@ pages_freed pool at = freed_by (take_first pool at)
 
 -- FreePool
 unfoldable pub pool_freeing : List BlockPage → PageList → ℕ → Result Done PoolRefusal
-pool_freeing pool m at = freed m (take_first pool at)
+pool_freeing pool m at = on_taken m (take_first pool at)
 
 -- A call that answers so leads from one pool and its pages to another. Want of memory may come at any call; then,
 -- as after each refusal, both are as before.

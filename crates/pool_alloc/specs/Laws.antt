@@ -19,10 +19,11 @@ IsLowest blocks size (Some lowest) = (has_room blocks size lowest ≡ true) × (
 abbrev pub LowestIsLowest : Type 0
 LowestIsLowest = (blocks : List Block) (size : ℕ) → 0 < size → IsLowest blocks size (lowest blocks size)
 
--- The blocks of a page are whole units of 8 bytes inside its pages, and no two have a byte in common.
+-- The blocks of a page begin at multiples of 8, have rounded sizes and lie inside its pages, and no two have a byte in
+-- common.
 pub record AreApart (page : BlockPage) : Type 0 where
-  pub units : (i : ℕ) (d : Block) → i < length page.blocks → (slice_index_or page.blocks i d).offset % 8 ≡ 0
-  pub sizes : (i : ℕ) (d : Block) → i < length page.blocks → (slice_index_or page.blocks i d).size % 8 ≡ 0
+  pub aligned : (i : ℕ) (d : Block) → i < length page.blocks → (slice_index_or page.blocks i d).offset % 8 ≡ 0
+  pub rounded : (i : ℕ) (d : Block) → i < length page.blocks → (slice_index_or page.blocks i d).size % 8 ≡ 0
   pub inside : (i : ℕ) (d : Block) → i < length page.blocks → (slice_index_or page.blocks i d).offset + (slice_index_or page.blocks i d).size ≤ 4096 * pages_of page.blocks
   pub apart : (i j : ℕ) (d : Block) → i < j → j < length page.blocks → (slice_index_or page.blocks i d).offset + (slice_index_or page.blocks i d).size ≤ (slice_index_or page.blocks j d).offset
 

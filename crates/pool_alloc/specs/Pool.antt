@@ -28,8 +28,8 @@ abbrev pub is_shared : List Block → Bool
 is_shared blocks = list_all (λ block. not (is_large block.size)) blocks
 
 -- the lowest gap of a page for so many bytes of a type
-unfoldable pub room_on : BlockPage → ℕ → ℕ → Option ℕ
-room_on page memory_type size = if page.memory_type == memory_type && is_shared page.blocks then lowest page.blocks size else None
+unfoldable pub gap_on : BlockPage → ℕ → ℕ → Option ℕ
+gap_on page memory_type size = if page.memory_type == memory_type && is_shared page.blocks then lowest page.blocks size else None
 
 abbrev pub with_block_on : BlockPage → ℕ → ℕ → BlockPage
 with_block_on page offset size = record page { blocks = with_block (record { offset = offset; size = size }) page.blocks }
@@ -47,7 +47,7 @@ put_on page pages size None (Some placed) = Some (record { at = placed.at; pages
 -- The first page that has a gap takes a block in its lowest one.
 unfoldable pub put_first : List BlockPage → ℕ → ℕ → Option Placed
 put_first [] memory_type size = None
-put_first (page ∷ pages) memory_type size = put_on page pages size (room_on page memory_type size) (put_first pages memory_type size)
+put_first (page ∷ pages) memory_type size = put_on page pages size (gap_on page memory_type size) (put_first pages memory_type size)
 
 -- the block of a page that begins at an address
 abbrev pub begins_at : BlockPage → ℕ → Block → Bool
@@ -83,8 +83,8 @@ abbrev pub behind : List BlockPage → Option Taken → Option Taken
 behind before None = None
 behind before (Some taken) = Some (record { size = taken.size; pages = before ++ taken.pages; freed = taken.freed })
 
--- blocks from an offset on, by offset: each has a whole number of units of 8 bytes, ends on the page, and has no
--- byte of another
+-- blocks from an offset on, by offset: each begins at a multiple of 8, has a rounded size, ends on the page, and has
+-- no byte of another
 abbrev pub InOrder : ℕ → List Block → Type 0
 InOrder low [] = Unit {0}
 InOrder low (block ∷ blocks) =
@@ -94,7 +94,7 @@ InOrder low (block ∷ blocks) =
 pub record IsLarge (block : Block) (blocks : List Block) : Type 0 where
   pub large : is_large block.size ≡ true
   pub first : block.offset ≡ 0
-  pub units : block.size % 8 ≡ 0
+  pub rounded : block.size % 8 ≡ 0
   pub alone : blocks ≡ []
 
 -- smaller blocks in order
@@ -116,8 +116,8 @@ pub record CanPut (blocks : List Block) (offset size : ℕ) : Type 0 where
   pub room : has_room blocks size offset ≡ true
   pub some : 0 < size
   pub small : size ≤ 2048
-  pub units : offset % 8 ≡ 0
-  pub sizes : size % 8 ≡ 0
+  pub aligned : offset % 8 ≡ 0
+  pub rounded : size % 8 ≡ 0
 
 pub record IsPage (page : BlockPage) : Type 0 where
   pub blocks : AreBlocks page.blocks

@@ -22,7 +22,7 @@ impl Block {
     }
 }
 
-/// A size in whole units of 8 bytes, at least one.
+/// A size rounded up to a multiple of 8, and 0 to 8.
 pub fn rounded(size: u64) -> u64
     requires { size ≤ 2 ^ 63 }
     ensures { result ≡ rounded size }

@@ -10,7 +10,8 @@ pub fn lowest_is_lowest()
     ensures { LowestIsLowest }
 {}
 
-/// The blocks of a pool are whole units of 8 bytes inside their pages, and no two have a byte in common.
+/// The blocks of a pool begin at multiples of 8, have rounded sizes and lie inside their pages, and no two have a byte
+/// in common.
 pub fn pool_is_apart()
     ensures { PoolIsApart }
 {}

@@ -3,7 +3,7 @@
 
 ghost use Rattle.std.specs.Prelude.{◌≡◌, ◌<◌, ◌≤◌, ◌+◌, ◌==◌, ◌∷◌, ℕ, IfOk, None, OnOk, OnErr, length, [], insert, remove, position, slice_index_or, vec_len, vec_capacity};
 ghost use Rattle.pool_alloc.specs.Blocks.{lowest, with_block};
-ghost use Rattle.pool_alloc.specs.Pool.{BlockPage, room_on, with_block_on, begins_at, span_of, is_shared, AreShared, AreBlocks, CanPut};
+ghost use Rattle.pool_alloc.specs.Pool.{BlockPage, gap_on, with_block_on, begins_at, span_of, is_shared, AreShared, AreBlocks, CanPut};
 
 use crate::block::{Block, pages_for};
 use crate::span::PageSpan;
@@ -112,12 +112,12 @@ impl PoolPage {
     }
 
     /// The lowest gap for so many bytes of a memory type, in bytes from the start.
-    #[tactic(auto, unfolding(crate::specs::Pool::room_on))]
-    pub fn room(&self, memory_type: u32, size: u64) -> Option<u64>
+    #[tactic(auto, unfolding(crate::specs::Pool::gap_on))]
+    pub fn gap(&self, memory_type: u32, size: u64) -> Option<u64>
         requires blocks { AreBlocks self.now.blocks }
         requires some { 0 < size }
         requires few { size ≤ 2048 }
-        ensures { result ≡ room_on self.now memory_type size }
+        ensures { result ≡ gap_on self.now memory_type size }
     {
         if self.memory_type != memory_type {
             return None;

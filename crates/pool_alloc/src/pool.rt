@@ -64,17 +64,17 @@ impl Pool {
     }
 
     /// The first page that has a gap for so many bytes of a memory type, by its place, and the lowest gap.
-    fn place(&self, memory_type: u32, size: u64) -> Option<(usize, u64)>
+    fn first_gap(&self, memory_type: u32, size: u64) -> Option<(usize, u64)>
         requires some { 0 < size }
         requires few { size ≤ 2048 }
-        requires units { size % 8 ≡ 0 }
+        requires rounded { size % 8 ≡ 0 }
         ensures none { IfNone result (put_first self.now memory_type size ≡ None) }
         ensures inside { IfSome result (λ place. place.0 < length self.now) }
         ensures can { IfSome result (λ place. (d : BlockPage) → CanPut (slice_index_or self.now place.0 d).blocks place.1 size) }
         ensures some { IfSome result (λ place. (d : BlockPage) → put_first self.now memory_type size ≡ Some (record { at = (slice_index_or self.now place.0 d).start + place.1; pages = slice_set self.now place.0 (with_block_on (slice_index_or self.now place.0 d) place.1 size) })) }
     {
         for (index, page) in self.pages.iter().enumerate() {
-            if let Some(offset) = page.room(memory_type, size) {
+            if let Some(offset) = page.gap(memory_type, size) {
                 return Some((index, offset));
             }
         }
@@ -123,13 +123,13 @@ impl Pool {
     }
 
     /// The address of the gap that a block of at least so many bytes of a memory type would take.
-    fn gap(&self, memory_type: u32, size: u64) -> Option<u64>
+    fn gap_address(&self, memory_type: u32, size: u64) -> Option<u64>
         ensures { result ≡ option_map (λ placed. placed.at) (gap_for self.now memory_type (rounded size)) }
     {
         if size > LARGEST {
             return None;
         }
-        let Some((index, offset)) = self.place(memory_type, rounded(size)) else {
+        let Some((index, offset)) = self.first_gap(memory_type, rounded(size)) else {
             return None;
         };
         let page = &self.pages[index];
@@ -146,7 +146,7 @@ impl Pool {
         if !may_be_given(memory_type) {
             return None;
         }
-        match self.gap(memory_type, size) {
+        match self.gap_address(memory_type, size) {
             Some(_) => None,
             None => new_pages(map, memory_type, size),
         }
@@ -160,7 +160,7 @@ impl Pool {
         if !may_be_given(memory_type) {
             return Err(PoolRefusal::Invalid);
         }
-        if let Some(at) = self.gap(memory_type, size) {
+        if let Some(at) = self.gap_address(memory_type, size) {
             return Ok(at);
         }
         match new_pages(map, memory_type, size) {
@@ -196,7 +196,7 @@ impl Pool {
             return self.add(map, memory_type, size);
         }
         let rounded_size = rounded(size);
-        match self.place(memory_type, rounded_size) {
+        match self.first_gap(memory_type, rounded_size) {
             Some((index, offset)) => match self.put(index, offset, rounded_size) {
                 Ok(at) => Ok(at),
                 Err(_) => Err(PoolRefusal::Memory),

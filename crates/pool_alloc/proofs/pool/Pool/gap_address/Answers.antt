@@ -1,6 +1,6 @@
 use Rattle.std.proofs.Common.{arith}
 use Rattle.pool_alloc.proofs.PoolLemmas.{write_fits}
-use Rattle.pool_alloc.proofs.pool.Pool.gap.Goals as goal
+use Rattle.pool_alloc.proofs.pool.Pool.gap_address.Goals as goal
 
 pub overflow_add-result : goal.overflow_add-result
 overflow_add-result c =
