@@ -50,6 +50,7 @@ abbrev pub span_at : ℕ → Result ℕ PageRefusal → Option PageSpan
 span_at count (Ok start) = Some (record { start = start; count = count })
 span_at count (Err refusal) = None
 
+-- no pages where the block has a gap, else those that AllocatePages gives at the highest start
 abbrev pub span_beside : PageList → ℕ → ℕ → Option Placed → Option PageSpan
 span_beside m memory_type size (Some placed) = None
 span_beside m memory_type size None = span_at (pages_for size) (allocation m 0 memory_type (pages_for size) 0)
@@ -63,7 +64,7 @@ abbrev pub InRam : Option PageSpan → PageList → Type 0
 InRam None m = Unit {0}
 InRam (Some span) m = (m.base ≤ span.start) × (span.start + 4096 * span.count ≤ m.base + 4096 * length m.pages)
 
--- the map behind it
+-- the map behind pages that are allocated
 abbrev pub with_allocated : PageList → ℕ → Option PageSpan → PageList
 with_allocated m memory_type None = m
 with_allocated m memory_type (Some span) = changed m span.start span.count (record { memory_type = memory_type; owner = Pool })
@@ -73,6 +74,7 @@ abbrev pub with_freed : PageList → Option PageSpan → PageList
 with_freed m None = m
 with_freed m (Some span) = changed m span.start span.count conventional
 
+-- the block is taken, and the pages that it needs no more are freed
 abbrev pub on_taken : PageList → Option Taken → Result Done PoolRefusal
 on_taken m None = Err Invalid
 on_taken m (Some taken) = Ok (record { answer = taken.size; pool = taken.pages; pages = with_freed m taken.freed })
