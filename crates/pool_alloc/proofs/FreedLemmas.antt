@@ -32,7 +32,7 @@ turned : (p q : BlockPage) → Apart p q → Apart q p
 turned p q (inl h) = inr h
 turned p q (inr h) = inl h
 
-own_there : (pool : List BlockPage) (m : PageList) (i : ℕ) (d : BlockPage) → i < length pool → Together pool m → owns m Pool (get_or pool i d).start (pages_of (get_or pool i d).blocks) ≡ true
+pub own_there : (pool : List BlockPage) (m : PageList) (i : ℕ) (d : BlockPage) → i < length pool → Together pool m → owns m Pool (get_or pool i d).start (pages_of (get_or pool i d).blocks) ≡ true
 own_there [] m i d h all = absurd (omega arith)
 own_there (p ∷ ps) m zero d h all = all.0
 own_there (p ∷ ps) m (suc i) d h all = own_there ps m i d (omega arith) all.1

@@ -8,6 +8,7 @@ pub mod TakeLemmas
 pub mod RestLemmas
 pub mod SkipLemmas
 pub mod FreedLemmas
+pub mod RamLemmas
 pub mod TakingLemmas
 pub mod OthersLemmas
 pub mod LawLemmas

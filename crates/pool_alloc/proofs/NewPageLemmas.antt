@@ -1,5 +1,5 @@
 -- New pages of the pool.
-use Rattle.std.proofs.Common.{◌≡◌, ◌≢◌, ℕ, ◌+◌, ◌*◌, ◌/◌, ◌%◌, ◌^◌, ◌<◌, ◌≤◌, List, [], ◌∷◌, ◌++◌, refl, sym, ap, ◌∙◌, arith, Bool, true, false, inl, inr, subst, max}
+use Rattle.std.proofs.Common.{◌≡◌, ◌≢◌, ℕ, ◌+◌, ◌*◌, ◌/◌, ◌%◌, ◌^◌, ◌<◌, ◌≤◌, List, [], ◌∷◌, ◌++◌, length, refl, sym, ap, ◌∙◌, arith, Bool, true, false, inl, inr, subst, max}
 use Rattle.std.specs.Prelude.{◌==◌, Result, Ok, if◌then◌else◌}
 use Rattle.std.proofs.lemmas.Bool.Decides.{nat_tests}
 use Rattle.page_alloc.specs.declared.page.Owner.TheVariants.{Pool}
@@ -10,7 +10,7 @@ use Rattle.page_alloc.specs.Laws.{IsGiven, GivenAreOwned, OwnedStay}
 use Rattle.page_alloc.specs.Laws.PageCall.{Allocate}
 use Rattle.pool_alloc.specs.Blocks.{rounded, is_large, pages_for}
 use Rattle.pool_alloc.specs.Pool.{BlockPage, pages_of, AreBlocks, IsPage, Apart, ApartFrom, IsPool, Together}
-use Rattle.pool_alloc.specs.Calls.{span_at}
+use Rattle.pool_alloc.specs.Calls.{span_at, BlockInRam}
 use Rattle.pool_alloc.proofs.BlockLemmas.{some_pages}
 use Rattle.pool_alloc.proofs.TogetherLemmas.{stays_together}
 
@@ -96,6 +96,9 @@ add_count size k n e f = f ∙ ap pages_for e ∙ rounded_pages size
 pub span_is : (m : PageList) (t size k n : ℕ) (r : Result ℕ PageRefusal) → k ≡ max size 1 → n ≡ pages_for k → r ≡ allocation m 0 t n 0 → span_at n r ≡ span_at (pages_for (rounded size)) (allocation m 0 t (pages_for (rounded size)) 0)
 span_is m t size k n r e f h = ap (λ q. span_at n q) h ∙ ap (λ c. span_at c (allocation m 0 t c 0)) (add_count size k n e f)
 
+covers : (n start end : ℕ) → start + 4096 * ((n + 4095) / 4096) ≤ end → start + n ≤ end
+covers n start end h = omega arith
+
 -- what the code takes
 module _ (given : GivenAreOwned) (m : PageList) (t size k n start : ℕ) (whole : Whole m) (e : k ≡ max size 1) (f : n ≡ pages_for k) (h : Ok start ≡ allocation m 0 t n 0) where
   same : n ≡ pages_for (rounded size)
@@ -111,6 +114,9 @@ module _ (given : GivenAreOwned) (m : PageList) (t size k n start : ℕ) (whole 
       let pages : pages_for (max size 1) ≡ pages_for (rounded size) = rounded_pages size in
       let few : pages_for (max size 1) ≤ 2 ^ 47 = omega (arith, high, end, pages) in
       omega (arith, few)
+
+  pub added_in : BlockInRam start (rounded size) m
+  added_in = let g = add_given in (g.low, covers (rounded size) start (m.base + 4096 * length m.pages) g.high)
 
   -- the pool behind it
   pub added_pool : (s pool r zs : List BlockPage) (x : BlockPage) (c : ℕ) → s ≡ pool → r ≡ s → zs ≡ r ++ x ∷ [] → x ≡ new_page start t c → c ≡ rounded size → IsPool s → Together pool m → IsPool zs

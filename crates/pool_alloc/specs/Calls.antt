@@ -64,6 +64,10 @@ abbrev pub InRam : Option PageSpan → PageList → Type 0
 InRam None m = Unit {0}
 InRam (Some span) m = (m.base ≤ span.start) × (span.start + 4096 * span.count ≤ m.base + 4096 * length m.pages)
 
+-- a block that lies in RAM
+abbrev pub BlockInRam : ℕ → ℕ → PageList → Type 0
+BlockInRam at size m = (m.base ≤ at) × (at + size ≤ m.base + 4096 * length m.pages)
+
 -- the map behind pages that are allocated
 abbrev pub with_allocated : PageList → ℕ → Option PageSpan → PageList
 with_allocated m memory_type None = m

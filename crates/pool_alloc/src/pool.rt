@@ -6,7 +6,7 @@ ghost use Rattle.std.specs.Option.{option_map};
 ghost use Rattle.page_alloc.specs.Pages.{PageList, Whole};
 ghost use Rattle.page_alloc.specs.Calls.{may_be_given, allocation};
 ghost use Rattle.pool_alloc.specs.Blocks.{rounded, pages_for};
-ghost use Rattle.pool_alloc.specs.Calls.{Gives, GivesSurely, on_pages, gap_for, pool_allocation, pool_freeing, answer_of, span_at, pages_allocated, with_allocated, pages_freed, with_freed, InRam};
+ghost use Rattle.pool_alloc.specs.Calls.{Gives, GivesSurely, on_pages, gap_for, pool_allocation, pool_freeing, answer_of, span_at, pages_allocated, with_allocated, pages_freed, with_freed, InRam, BlockInRam};
 ghost use Rattle.pool_alloc.specs.Pool.{BlockPage, Placed, put_first, with_block_on, take_first, begins_at, behind, TakeGives, CanFree, CanPut, IsPool, Together};
 
 use crate::block::{Block, pages_for, rounded};
@@ -89,6 +89,7 @@ impl Pool {
         ensures ok { OnOk result ((d : BlockPage) → self.new ≡ slice_set self.old index (with_block_on (slice_index_or self.old index d) offset size)) }
         ensures err { OnErr result (self.new ≡ self.old) }
         ensures together { (m : PageList) → Together self.old m → Together self.new m }
+        ensures block { (m : PageList) → Whole m → Together self.old m → IfOk result (λ at. BlockInRam at size m) }
     {
         let page = &mut self.pages[index];
         let at = page.start() + offset;
@@ -103,6 +104,7 @@ impl Pool {
         ensures gives { Gives result (on_pages self.old map.old memory_type (rounded size) (allocation map.old 0 memory_type (pages_for (rounded size)) 0)) self.old map.old self.new map.new }
         ensures pages { OnOk result (map.new ≡ with_allocated map.old memory_type (span_at (pages_for (rounded size)) (allocation map.old 0 memory_type (pages_for (rounded size)) 0))) }
         ensures inside { OnOk result (InRam (span_at (pages_for (rounded size)) (allocation map.old 0 memory_type (pages_for (rounded size)) 0)) map.old) }
+        ensures block { IfOk result (λ at. BlockInRam at (rounded size) map.old) }
         ensures together { Together self.new map.new }
         ensures base { map.new.base ≡ map.old.base }
         ensures length { length map.new.pages ≡ length map.old.pages }
@@ -185,6 +187,7 @@ impl Pool {
         ensures gives { Gives result (pool_allocation self.old map.old memory_type size) self.old map.old self.new map.new }
         ensures pages { OnOk result (map.new ≡ with_allocated map.old memory_type (pages_allocated self.old map.old memory_type size)) }
         ensures inside { OnOk result (InRam (pages_allocated self.old map.old memory_type size) map.old) }
+        ensures block { IfOk result (λ at. BlockInRam at (rounded size) map.old) }
         ensures together { Together self.new map.new }
         ensures base { map.new.base ≡ map.old.base }
         ensures length { length map.new.pages ≡ length map.old.pages }
@@ -195,6 +198,7 @@ impl Pool {
         if size > LARGEST {
             return self.add(map, memory_type, size);
         }
+        map.whole();
         let rounded_size = rounded(size);
         match self.first_gap(memory_type, rounded_size) {
             Some((index, offset)) => match self.put(index, offset, rounded_size) {

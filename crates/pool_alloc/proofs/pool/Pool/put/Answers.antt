@@ -1,5 +1,6 @@
-use Rattle.std.proofs.Common.{◌<◌, length, ap, arith}
+use Rattle.std.proofs.Common.{◌<◌, length, ap, arith, refl}
 use Rattle.pool_alloc.proofs.PoolLemmas.{can_there, write_fits, write_pool, write_together}
+use Rattle.pool_alloc.proofs.RamLemmas.{put_in}
 use Rattle.pool_alloc.proofs.pool.Pool.put.Goals as goal
 
 pub overflow_add-at : goal.overflow_add-at
@@ -20,3 +21,7 @@ invariant_of-self-2 c =
 pub returns-clause-together : goal.returns-clause-together
 returns-clause-together c = λ m together.
     write_together c.self.inside.pages.items c.args.self.now m c.args.index c.args.offset c.args.size _ _ c.self.view_is c.requires.inside c.index_mut-page.ensures.value c.requires.can c.in_ok-put.ensures.ok together
+
+pub returns-clause-block : goal.returns-clause-block
+returns-clause-block c = λ m whole together.
+    put_in c.self.inside.pages.items c.args.self.now m c.args.index c.args.offset c.args.size c.start.result _ _ c.self.view_is c.requires.inside c.index_mut-page.ensures.value c.self.invariant c.requires.can c.start.ensures refl whole together
