@@ -12,7 +12,7 @@ use Rattle.handle_db.specs.declared.refusal.HandleRefusal.{HandleRefusal}
 use Rattle.handle_db.specs.declared.refusal.HandleRefusal.TheVariants as handle
 use Rattle.handle_db.specs.Database.{Protocol, Handle, Database, has_number, has_guid, handle_in, protocol_on, protocol_in, opens_in, at_first, with_protocols, with_opens, reopened, all_but, left_with, fresh, is_like, once_more, noted, is_kept, with_open, is_between, closed}
 use Rattle.handle_db.specs.Calls.{Done as HandleDone, is_full, with_handle, installed_on, installation as handle_installation, has_interface, removal, removed_from, replacement, replaced_on, discarded, discarded_on}
-use Rattle.handle_db.proofs.ListLemmas.{none_passes, found_has, pairs_at, all_at, all_at_found}
+use Rattle.protocol_db.proofs.ListLemmas.{none_passes, found_has, pairs_at, all_at, all_at_found}
 use Rattle.protocol_db.specs.declared.request.OpenRequest.{OpenRequest}
 use Rattle.protocol_db.specs.declared.refusal.ProtocolRefusal.{ProtocolRefusal}
 use Rattle.protocol_db.specs.declared.refusal.ProtocolRefusal.TheVariants.{Invalid, NotFound, AccessDenied, AlreadyStarted}

@@ -7,7 +7,7 @@ use Rattle.uh_base.specs.declared.guid.Guid.{Guid}
 use Rattle.handle_db.specs.Database.{Handle, Database, handle_in, has_guid, at_first, left_with, with_protocols, all_but, fresh}
 use Rattle.handle_db.specs.declared.refusal.HandleRefusal.TheVariants as handle
 use Rattle.handle_db.specs.Calls.{Done as HandleDone, is_full, with_handle, installed_on, installation as handle_installation, has_interface, has_interface_on, has_interface_in, removal, removed_from, replacement, replaced_on}
-use Rattle.handle_db.proofs.ListLemmas.{any_none, find_none, find_some, unchanged, change_some}
+use Rattle.protocol_db.proofs.ListLemmas.{find_none, find_some, unchanged, change_some}
 use Rattle.protocol_db.specs.declared.refusal.ProtocolRefusal.TheVariants.{AccessDenied, Full}
 use Rattle.protocol_db.specs.Opening.{is_held}
 use Rattle.protocol_db.specs.Registrations.{Registration, Protocols, is_numbered, is_for, untold, events_for, all_told, none_told, first_pending, first_taken}
@@ -150,7 +150,7 @@ reinstall_here p hs d before after made n guid old new r events e done is f k l 
 
 -- a registration's notices
 pub nobody : (p : Protocols) (n : ℕ) (r : Option ℕ) → r ≡ position (is_numbered n) p.registrations → r ≡ None → find (is_numbered n) p.registrations ≡ None
-nobody p n r is none = find_none (is_numbered n) p.registrations (any_none (is_numbered n) p.registrations (sym is ∙ none))
+nobody p n r is none = find_none (is_numbered n) p.registrations (sym is ∙ none)
 
 pub somebody : (p : Protocols) (n i : ℕ) (hs : Database) (rs : List Registration) (made : ℕ) (x : Registration) (r : Option ℕ) → record { handles = hs; registrations = rs; made = made } ≡ p → r ≡ position (is_numbered n) p.registrations → r ≡ Some i
     → x ≡ get_or rs i x → find (is_numbered n) p.registrations ≡ Some x

@@ -8,8 +8,8 @@ use Rattle.uh_base.specs.declared.guid.Guid.{Guid}
 use Rattle.handle_db.specs.declared.refusal.HandleRefusal.{HandleRefusal}
 use Rattle.handle_db.specs.Database.{Database, protocol_in, fresh}
 use Rattle.handle_db.specs.Calls.{Done as HandleDone, installation as handle_installation, removal, replacement}
-use Rattle.handle_db.proofs.ListLemmas.{none_left}
-use Rattle.handle_db.proofs.LawLemmas.{removed_is_gone, replaced_is_fresh, discarded_is_gone}
+use Rattle.handle_db.specs.Laws.{RemovedIsGone, ReplacedIsFresh, DiscardedIsGone}
+use Rattle.protocol_db.proofs.ListLemmas.{none_left}
 use Rattle.protocol_db.specs.declared.refusal.ProtocolRefusal.TheVariants.{AccessDenied}
 use Rattle.protocol_db.specs.Opening.{is_held}
 use Rattle.protocol_db.specs.Registrations.{Registration, Protocols, is_for, pended, told, untold, all_told, none_told}
@@ -60,34 +60,34 @@ pending_all guid n [] = All-nil (λ (r : Registration). is_for guid r ≡ true �
 pending_all guid n (r ∷ rs) = All-cons (λ (r : Registration). is_for guid r ≡ true → list_any (λ h. h == n) r.pending ≡ true) (told guid n r) (map (told guid n) rs) (pending_one guid n r) (pending_all guid n rs)
 
 -- what goes
-uninstalled_by : (p new : Protocols) (n : ℕ) (guid : Guid) (interface : ℕ) (o : Result Database HandleRefusal) → removal p.handles n guid interface ≡ o → uninstalled p n guid o ≡ Ok new → IsWithdrawn new n guid
-uninstalled_by p new n guid interface (Err refusal) e h = absurd (cc)
-uninstalled_by p new n guid interface (Ok d) e h = by (is_held p.handles n guid) h
+uninstalled_by : RemovedIsGone → (p new : Protocols) (n : ℕ) (guid : Guid) (interface : ℕ) (o : Result Database HandleRefusal) → removal p.handles n guid interface ≡ o → uninstalled p n guid o ≡ Ok new → IsWithdrawn new n guid
+uninstalled_by gone p new n guid interface (Err refusal) e h = absurd (cc)
+uninstalled_by gone p new n guid interface (Ok d) e h = by (is_held p.handles n guid) h
   where
     by : (b : Bool) → (if b then Err AccessDenied else Ok (withdrawn p d n guid)) ≡ Ok new → IsWithdrawn new n guid
     by true k = absurd (cc)
-    by false k = let is : withdrawn p d n guid ≡ new = cc in subst (λ (q : Protocols). IsWithdrawn q n guid) is (record { gone = removed_is_gone p.handles d n guid interface e; silent = silent_all guid n p.registrations })
+    by false k = let is : withdrawn p d n guid ≡ new = cc in subst (λ (q : Protocols). IsWithdrawn q n guid) is (record { gone = gone p.handles d n guid interface e; silent = silent_all guid n p.registrations })
 
-pub uninstalled_is_withdrawn : UninstalledIsWithdrawn
+pub uninstalled_is_withdrawn : RemovedIsGone → UninstalledIsWithdrawn
 unfolding uninstallation
-uninstalled_is_withdrawn p new n guid interface e = uninstalled_by p new n guid interface (removal p.handles n guid interface) refl e
+uninstalled_is_withdrawn gone p new n guid interface e = uninstalled_by gone p new n guid interface (removal p.handles n guid interface) refl e
 
-pub dropped_is_withdrawn : DroppedIsWithdrawn
+pub dropped_is_withdrawn : DiscardedIsGone → DroppedIsWithdrawn
 unfolding dropped
-dropped_is_withdrawn p n guid there = rw there (record { gone = discarded_is_gone p.handles n guid; silent = silent_all guid n p.registrations })
+dropped_is_withdrawn gone p n guid there = rw there (record { gone = gone p.handles n guid; silent = silent_all guid n p.registrations })
 
 -- what comes
-reinstalled_by : (p : Protocols) (done : Done Installation) (n : ℕ) (guid : Guid) (old new : ℕ) (o : Result Database HandleRefusal) → replacement p.handles n guid old new ≡ o → reinstalled p n guid o ≡ Ok done → protocol_in done.after.handles n guid ≡ Some (fresh guid new)
-reinstalled_by p done n guid old new (Err refusal) e h = absurd (cc)
-reinstalled_by p done n guid old new (Ok d) e h = by (is_held p.handles n guid) h
+reinstalled_by : ReplacedIsFresh → (p : Protocols) (done : Done Installation) (n : ℕ) (guid : Guid) (old new : ℕ) (o : Result Database HandleRefusal) → replacement p.handles n guid old new ≡ o → reinstalled p n guid o ≡ Ok done → protocol_in done.after.handles n guid ≡ Some (fresh guid new)
+reinstalled_by is_fresh p done n guid old new (Err refusal) e h = absurd (cc)
+reinstalled_by is_fresh p done n guid old new (Ok d) e h = by (is_held p.handles n guid) h
   where
     by : (b : Bool) → (if b then Err AccessDenied else Ok (announced p d n guid)) ≡ Ok done → protocol_in done.after.handles n guid ≡ Some (fresh guid new)
     by true k = absurd (cc)
-    by false k = let is : announced p d n guid ≡ done = cc in subst (λ (it : Done Installation). protocol_in it.after.handles n guid ≡ Some (fresh guid new)) is (replaced_is_fresh p.handles d n guid old new e)
+    by false k = let is : announced p d n guid ≡ done = cc in subst (λ (it : Done Installation). protocol_in it.after.handles n guid ≡ Some (fresh guid new)) is (is_fresh p.handles d n guid old new e)
 
-pub reinstalled_is_fresh : ReinstalledIsFresh
+pub reinstalled_is_fresh : ReplacedIsFresh → ReinstalledIsFresh
 unfolding reinstallation
-reinstalled_is_fresh p done n guid old new e = reinstalled_by p done n guid old new (replacement p.handles n guid old new) refl e
+reinstalled_is_fresh is_fresh p done n guid old new e = reinstalled_by is_fresh p done n guid old new (replacement p.handles n guid old new) refl e
 
 installed_by : (p : Protocols) (done : Done Installation) (guid : Guid) (o : Result HandleDone HandleRefusal) → installed p guid o ≡ Ok done → All (λ (r : Registration). is_for guid r ≡ true → list_any (λ h. h == done.answer.handle) r.pending ≡ true) done.after.registrations
 installed_by p done guid (Err refusal) h = absurd (cc)

@@ -1,3 +1,4 @@
+pub mod ListLemmas
 pub mod WholeLemmas
 pub mod CallLemmas
 pub mod LawLemmas

@@ -3,13 +3,14 @@ use Rattle.std.proofs.Common.{◌≡◌, ◌∙◌, ℕ, zero, suc, ◌+◌, ◌
 use Rattle.std.specs.Prelude.{map, Option, Some, None, if◌then◌else◌, not, ◌==◌, ◌||◌, MatchOption}
 use Rattle.std.specs.List.{filter, list_any, AllPairs}
 use Rattle.std.proofs.lemmas.List.{length-map}
+use Rattle.std.proofs.lemmas.List.Sums.{length-filter, count_by-le-length}
 use Rattle.std.proofs.lemmas.List.Elements.{All-map, All-filter, All-push, All-weaker}
 use Rattle.std.proofs.lemmas.List.Kept.{AllPairs-filter}
 use Rattle.std.proofs.lemmas.List.Quantifiers.{all_pairs_push}
 use Rattle.uh_base.specs.declared.guid.Guid.{Guid}
 use Rattle.handle_db.specs.Database.{Database}
 use Rattle.handle_db.specs.Whole.{IsDatabase}
-use Rattle.handle_db.proofs.ListLemmas.{kept_count, none_passes, pairs_at, all_at, length_at}
+use Rattle.protocol_db.proofs.ListLemmas.{none_passes, pairs_at, all_at, length_at}
 use Rattle.protocol_db.specs.Registrations.{Registration, Protocols, is_numbered, is_for, pended, told, untold, all_told, none_told, first_taken}
 use Rattle.protocol_db.specs.Calls.{forgotten, with_registration}
 use Rattle.protocol_db.specs.Whole.{IsRegistration, IsWhole}
@@ -115,7 +116,7 @@ pub forgotten_whole : (p : Protocols) (event : ℕ) → IsWhole p → IsWhole (f
 unfolding forgotten
 forgotten_whole p event all = record {
   handles = all.handles;
-  few = (let few = all.few in let l = kept_count (λ r. not (r.event == event)) p.registrations in omega (arith, few, l));
+  few = (let few = all.few in let l = length-filter (λ (r : Registration). not (r.event == event)) p.registrations in let m = count_by-le-length (λ (r : Registration). not (r.event == event)) p.registrations in omega (arith, few, l, m));
   made = all.made;
   registrations = All-filter (λ r. not (r.event == event)) (IsRegistration p.made) p.registrations all.registrations;
   order = AllPairs-filter (λ (a b : Registration). a.number < b.number) (λ r. not (r.event == event)) p.registrations all.order;

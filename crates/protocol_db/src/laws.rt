@@ -1,23 +1,31 @@
-//! What the definitions come to. Each law is the contract of a function that does nothing. That a handle is pending at
-//! most once for a registration, `Protocols::whole` says of every state.
+//! What the definitions come to. Each law is the contract of a function that calls at most the laws that it needs. That
+//! a handle is pending at most once for a registration, `Protocols::whole` says of every state.
 #![tactic(auto)]
 
 ghost use Rattle.protocol_db.specs.Laws.{UninstalledIsWithdrawn, DroppedIsWithdrawn, ReinstalledIsFresh, InstalledIsPending, OneAloneStays};
 
+use handle_db::{discarded_is_gone, removed_is_gone, replaced_is_fresh};
+
 /// A protocol that was uninstalled is gone with its opens, and its handle is pending for no registration of it.
 pub fn uninstalled_is_withdrawn()
     ensures { UninstalledIsWithdrawn }
-{}
+{
+    removed_is_gone();
+}
 
 /// So is one that was discarded.
 pub fn dropped_is_withdrawn()
     ensures { DroppedIsWithdrawn }
-{}
+{
+    discarded_is_gone();
+}
 
 /// A protocol that was reinstalled is there, and nobody has opened it.
 pub fn reinstalled_is_fresh()
     ensures { ReinstalledIsFresh }
-{}
+{
+    replaced_is_fresh();
+}
 
 /// The handle on which a protocol was installed is pending for each registration of it.
 pub fn installed_is_pending()
