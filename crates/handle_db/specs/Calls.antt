@@ -1,5 +1,5 @@
 -- What the calls of the handle database answer, and the database behind them (UEFI 2.10, section 7.3).
-use Rattle.std.specs.Prelude.{ℕ, ◌≡◌, ◌+◌, ◌-◌, ◌^◌, ◌==◌, ◌&&◌, ◌||◌, Bool, false, List, [], ◌∷◌, ◌++◌, map, length, nat_le, slice_get, Option, Some, None, Result, Ok, Err, if◌then◌else◌}
+use Rattle.std.specs.Prelude.{ℕ, ◌≡◌, ◌+◌, ◌-◌, ◌^◌, ◌==◌, ◌&&◌, ◌||◌, not, Bool, false, List, [], ◌∷◌, ◌++◌, map, length, nat_le, slice_get, Option, Some, None, Result, Ok, Err, if◌then◌else◌}
 use Rattle.std.specs.List.{filter, fold, list_any}
 use Rattle.uh_base.specs.declared.guid.Guid.{Guid}
 use Rattle.handle_db.specs.declared.refusal.HandleRefusal.{HandleRefusal}
@@ -95,6 +95,18 @@ replaced_on d number guid old new (Some handle) = if has_interface guid old hand
 -- an interface is taken from a handle, with its opens, and another stands last in its place
 unfoldable pub replacement : Database → ℕ → Guid → ℕ → ℕ → Result Database HandleRefusal
 replacement d number guid old new = replaced_on d number guid old new (handle_in d number)
+
+-- a pair has the GUID of a protocol interface
+abbrev pub is_among : List (Guid × ℕ) → Protocol → Bool
+is_among pairs protocol = list_any (λ (pair : Guid × ℕ). has_guid pair.0 protocol) pairs
+
+abbrev pub keeps_some : List (Guid × ℕ) → Option Handle → Bool
+keeps_some pairs None = false
+keeps_some pairs (Some handle) = list_any (λ p. not (is_among pairs p)) handle.protocols
+
+-- A live handle has a protocol interface by a GUID of none of the pairs: just then it stays live without theirs.
+unfoldable pub stays_live : Database → ℕ → List (Guid × ℕ) → Bool
+stays_live d number pairs = keeps_some pairs (handle_in d number)
 
 -- the live handles that have a protocol, or all, in order of making
 unfoldable pub handles_with : Database → Option Guid → List ℕ

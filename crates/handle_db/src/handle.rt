@@ -1,12 +1,12 @@
 //! One handle.
 #![tactic(auto)]
 
-ghost use Rattle.std.specs.Prelude.{◌≡◌, ◌<◌, ◌==◌, ◌&&◌, ◌++◌, ◌∷◌, [], true, IfOk, OnOk, OnErr, map, length, take, position, vec_len, vec_capacity};
+ghost use Rattle.std.specs.Prelude.{◌≡◌, ◌<◌, ◌==◌, ◌&&◌, not, ◌++◌, ◌∷◌, [], true, IfOk, OnOk, OnErr, map, length, take, position, vec_len, vec_capacity};
 ghost use Rattle.std.specs.List.{find, filter, fold, list_any, list_all};
 ghost use Rattle.std.specs.Option.{option_copied};
 ghost use Rattle.uh_base.specs.declared.guid.Guid.{Guid as AnyGuid};
 ghost use Rattle.handle_db.specs.Database.{Protocol, Handle, has_guid, fresh, noted, closed, all_but, with_opens, supports};
-ghost use Rattle.handle_db.specs.Calls.{has_interface, added, AddGives};
+ghost use Rattle.handle_db.specs.Calls.{has_interface, is_among, added, AddGives};
 
 use crate::entry::OpenEntry;
 use crate::protocol::ProtocolInterface;
@@ -83,6 +83,15 @@ impl LiveHandle {
     {
         self.protocols.iter().any(|protocol| protocol.is_of(guid)
             && protocol.interface() == interface)
+    }
+
+    /// Whether the handle has a protocol by a GUID of none of the pairs.
+    pub fn has_beside(&self, pairs: &[(Guid, u64)]) -> bool
+        ensures { result ≡ list_any (λ p. not (is_among pairs.now p)) self.now.protocols }
+    {
+        self.protocols
+            .iter()
+            .any(|protocol| !protocol.is_among(pairs))
     }
 
     /// Puts a protocol last.

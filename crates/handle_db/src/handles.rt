@@ -7,7 +7,7 @@ ghost use Rattle.std.specs.Option.{option_copied, option_map};
 ghost use Rattle.uh_base.specs.declared.guid.Guid.{Guid as AnyGuid};
 ghost use Rattle.handle_db.specs.Whole.{IsDatabase};
 ghost use Rattle.handle_db.specs.Database.{Handle, Database, has_number, handle_in, protocol_in, is_handle, interface_in, opens_in, reopened, noted, closed, is_kept, left_with, all_but, with_protocols, with_open, fresh, has_guid, supports};
-ghost use Rattle.handle_db.specs.Calls.{installed_new, installed_on, installation, removal, replacement, has_interface_in, discarded, next_in, handles_with, first_with, guids_in, installation_of_all, InstallGives, AllGives, ChangeGives};
+ghost use Rattle.handle_db.specs.Calls.{installed_new, installed_on, installation, removal, replacement, has_interface_in, stays_live, discarded, next_in, handles_with, first_with, guids_in, installation_of_all, InstallGives, AllGives, ChangeGives};
 
 use crate::entry::OpenEntry;
 use crate::handle::LiveHandle;
@@ -279,6 +279,18 @@ impl Handles {
         match self.find(handle) {
             None => false,
             Some(live) => live.has_interface(guid, interface),
+        }
+    }
+
+    /// Whether a live handle has a protocol by a GUID of none of the pairs. Just then it stays live once the protocols
+    /// of the pairs are taken from it.
+    #[tactic(auto, unfolding(crate::specs::Calls::stays_live))]
+    pub fn stays_live(&self, handle: u64, pairs: &[(Guid, u64)]) -> bool
+        ensures { result ≡ stays_live self.now handle pairs.now }
+    {
+        match self.find(handle) {
+            None => false,
+            Some(live) => live.has_beside(pairs),
         }
     }
 

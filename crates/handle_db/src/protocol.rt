@@ -3,6 +3,7 @@
 
 ghost use Rattle.std.specs.Prelude.{◌≡◌, ◌==◌, [], IfOk, OnOk, OnErr, position};
 ghost use Rattle.handle_db.specs.Database.{Protocol, has_guid, fresh, is_like, noted, closed};
+ghost use Rattle.handle_db.specs.Calls.{is_among};
 
 use crate::entry::OpenEntry;
 use std::alloc::{AllocError, Global};
@@ -42,6 +43,13 @@ impl ProtocolInterface {
         ensures { result ≡ has_guid guid.now self.now }
     {
         self.guid.is_same(guid)
+    }
+
+    /// Whether a pair has its GUID.
+    pub fn is_among(&self, pairs: &[(Guid, u64)]) -> bool
+        ensures { result ≡ is_among pairs.now self.now }
+    {
+        pairs.iter().any(|pair| self.is_of(&pair.0))
     }
 
     /// The GUID.
