@@ -1,7 +1,7 @@
 -- At most one entry of a protocol is by a driver or exclusive.
 use Rattle.std.proofs.Common.{◌≡◌, ℕ, ◌+◌, ◌*◌, ◌<◌, List, [], ◌∷◌, ◌++◌, length, get_or, refl, subst, arith, Bool, true, false}
 use Rattle.std.specs.Prelude.{Option, Some, None, Result, Ok, Err, if◌then◌else◌, not, ◌&&◌}
-use Rattle.std.specs.List.{list_any, All}
+use Rattle.std.specs.List.{fold, list_any, All}
 use Rattle.std.specs.Option.{is_some}
 use Rattle.std.proofs.lemmas.List.Elements.{All-nil, All-cons, All-push, All-filter}
 use Rattle.std.proofs.lemmas.List.Kept.{AllPairs-filter}
@@ -11,14 +11,15 @@ use Rattle.handle_db.specs.declared.entry.OpenEntry.{OpenEntry}
 use Rattle.handle_db.specs.declared.refusal.HandleRefusal.{HandleRefusal}
 use Rattle.handle_db.specs.declared.refusal.HandleRefusal.TheVariants as handle
 use Rattle.handle_db.specs.Database.{Protocol, Handle, Database, has_number, has_guid, handle_in, protocol_on, protocol_in, opens_in, at_first, with_protocols, with_opens, reopened, all_but, left_with, fresh, is_like, once_more, noted, is_kept, with_open, is_between, closed}
-use Rattle.handle_db.specs.Calls.{Done as HandleDone, is_full, with_handle, installed_on, installation as handle_installation, has_interface, removal, removed_from, replacement, replaced_on, discarded, discarded_on}
+use Rattle.handle_db.specs.Calls.{Done as HandleDone, AllDone as AllHandleDone, one_more, installed_next, installation_of_all as handle_installation_of_all, is_full, with_handle, installed_on, installation as handle_installation, has_interface, removal, removed_from, replacement, replaced_on, discarded as handle_discarded, discarded_on}
 use Rattle.protocol_db.proofs.ListLemmas.{none_passes, found_has, pairs_at, all_at, all_at_found}
+use Rattle.protocol_db.proofs.AllLemmas.{refused_all}
 use Rattle.protocol_db.specs.declared.request.OpenRequest.{OpenRequest}
 use Rattle.protocol_db.specs.declared.refusal.ProtocolRefusal.{ProtocolRefusal}
 use Rattle.protocol_db.specs.declared.refusal.ProtocolRefusal.TheVariants.{Invalid, NotFound, AccessDenied, AlreadyStarted}
 use Rattle.protocol_db.specs.Opening.{is_alone, is_by_driver, is_askable, entry_of, judged, opening, is_held}
 use Rattle.protocol_db.specs.Registrations.{Protocols}
-use Rattle.protocol_db.specs.Calls.{Done, Installation, announced, installed, installation, withdrawn, uninstalled, uninstallation, reinstalled, reinstallation, opened, protocol_opening, may_close, has_between, closing, dropped}
+use Rattle.protocol_db.specs.Calls.{Done, Installation, InstallationOfAll, all_announced, all_installed, installation_of_all, first_refusal, all_discarded, all_uninstalled, uninstallation_of_all, announced, installed, installation, withdrawn, uninstalled, uninstallation, reinstalled, reinstallation, opened, protocol_opening, may_close, has_between, closing, discarded}
 use Rattle.protocol_db.specs.Laws.{IsOneAlone, AreAlone, OneAloneStays}
 
 abbrev Fine : List Protocol → Type 0
@@ -71,6 +72,24 @@ installed_fine p done number guid interface (Ok it) all e h =
     let is : announced p it.database it.handle guid ≡ done = cc in
     subst (λ (q : Done Installation). AreAlone q.after.handles) is (install_fine p.handles number guid interface it all e)
 
+-- an install of pairs
+all_fine : (pairs : List (Guid × ℕ)) (it done : AllHandleDone) → AreAlone it.database → fold installed_next (Ok it) pairs ≡ Ok done → AreAlone done.database
+all_fine [] it done all e = let is : it ≡ done = cc in subst (λ (d : AllHandleDone). AreAlone d.database) is all
+all_fine (pair ∷ pairs) it done all e = by (handle_installation it.database it.handle pair.0 pair.1) refl e (λ one more. all_fine pairs (record { handle = Some one.handle; database = one.database }) done more)
+  where
+    by : (o : Result HandleDone HandleRefusal) → handle_installation it.database it.handle pair.0 pair.1 ≡ o → fold installed_next (one_more o) pairs ≡ Ok done
+        → ((one : HandleDone) → AreAlone one.database → fold installed_next (one_more (Ok one)) pairs ≡ Ok done → AreAlone done.database) → AreAlone done.database
+    by (Err refusal) k h more = absurd (let no = refused_all refusal pairs in cc)
+    by (Ok one) k h more = more one (install_fine it.database it.handle pair.0 pair.1 one all k) h
+
+all_installed_fine : (p : Protocols) (done : Done InstallationOfAll) (number : Option ℕ) (pairs : List (Guid × ℕ)) (o : Result AllHandleDone HandleRefusal) → AreAlone p.handles → handle_installation_of_all p.handles number pairs ≡ o → all_installed p pairs o ≡ Ok done
+    → AreAlone done.after.handles
+unfolding handle_installation_of_all
+all_installed_fine p done number pairs (Err refusal) all e h = absurd (cc)
+all_installed_fine p done number pairs (Ok it) all e h =
+    let is : all_announced p pairs it ≡ done = cc in
+    subst (λ (q : Done InstallationOfAll). AreAlone q.after.handles) is (all_fine pairs (record { handle = number; database = p.handles }) it all e)
+
 -- what goes
 removal_fine : (d x : Database) (n : ℕ) (guid : Guid) (interface : ℕ) (o : Option Handle) → AreAlone d → handle_in d n ≡ o → removed_from d n guid interface o ≡ Ok x → AreAlone x
 removal_fine d x n guid interface None all e h = absurd (cc)
@@ -116,10 +135,19 @@ discarded_fine d n guid (Some g) all e = by (list_any (has_guid guid) g.protocol
     by true = left_fine d n (all_but guid g.protocols) (all_but_fine guid g.protocols (found_fine d n g all e)) all
     by false = all
 
-dropped_fine : (p : Protocols) (n : ℕ) (guid : Guid) (b : Bool) → AreAlone p.handles → AreAlone (if b then withdrawn p (discarded p.handles n guid) n guid else p).handles
+gone_fine : (p : Protocols) (n : ℕ) (guid : Guid) (b : Bool) → AreAlone p.handles → AreAlone (if b then withdrawn p (handle_discarded p.handles n guid) n guid else p).handles
+unfolding handle_discarded
+gone_fine p n guid true all = discarded_fine p.handles n guid (handle_in p.handles n) all refl
+gone_fine p n guid false all = all
+
+all_discarded_fine : (pairs : List (Guid × ℕ)) (p : Protocols) (n : ℕ) → AreAlone p.handles → AreAlone (all_discarded p n pairs).handles
 unfolding discarded
-dropped_fine p n guid true all = discarded_fine p.handles n guid (handle_in p.handles n) all refl
-dropped_fine p n guid false all = all
+all_discarded_fine [] p n all = all
+all_discarded_fine (pair ∷ pairs) p n all = all_discarded_fine pairs (discarded p n pair.0) n (gone_fine p n pair.0 (is_some (protocol_in p.handles n pair.0)) all)
+
+all_uninstalled_fine : (p new : Protocols) (n : ℕ) (pairs : List (Guid × ℕ)) (o : Option ProtocolRefusal) → AreAlone p.handles → all_uninstalled p n pairs o ≡ Ok new → AreAlone new.handles
+all_uninstalled_fine p new n pairs (Some refusal) all e = absurd (cc)
+all_uninstalled_fine p new n pairs None all e = let is : all_discarded p n pairs ≡ new = cc in subst (λ (q : Protocols). AreAlone q.handles) is (all_discarded_fine pairs p n all)
 
 -- a close
 closed_fine : (d : Database) (n : ℕ) (guid : Guid) (agent controller : ℕ) → AreAlone d → AreAlone (reopened d n guid (closed agent controller))
@@ -198,13 +226,15 @@ opened_fine p done r (Ok interface) all e h =
     subst (λ (q : Done ℕ). AreAlone q.after.handles) is (with_open_fine p.handles r.handle r.guid (entry_of r) there.0 all there.1 there.2.free)
 
 pub one_alone_stays : OneAloneStays
-unfolding installation uninstallation reinstallation protocol_opening closing dropped
+unfolding installation installation_of_all uninstallation uninstallation_of_all reinstallation protocol_opening closing discarded
 one_alone_stays = record {
   first = All-nil (λ (h : Handle). Fine h.protocols);
   install = λ p done number guid interface all e. installed_fine p done number guid interface (handle_installation p.handles number guid interface) all refl e;
+  install_all = λ p done number pairs all e. all_installed_fine p done number pairs (handle_installation_of_all p.handles number pairs) all refl e;
+  uninstall_all = λ p new n pairs all e. all_uninstalled_fine p new n pairs (first_refusal p.handles n [] pairs) all e;
   reinstall = λ p done n guid old new all e. reinstalled_fine p done n guid old new (replacement p.handles n guid old new) all refl e;
   uninstall = λ p new n guid interface all e. uninstalled_fine p new n guid interface (removal p.handles n guid interface) all refl e;
   opens = λ p done r all e. opened_fine p done r (opening p.handles r) all refl e;
   close = λ p new n guid agent controller all e. closing_fine p new n guid agent controller (may_close p.handles n agent controller) (has_between agent controller (opens_in p.handles n guid)) all e;
-  discard = λ p n guid all. dropped_fine p n guid (is_some (protocol_in p.handles n guid)) all;
+  discard = λ p n guid all. gone_fine p n guid (is_some (protocol_in p.handles n guid)) all;
 }

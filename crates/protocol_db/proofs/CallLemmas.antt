@@ -1,6 +1,6 @@
 -- What the calls give.
 use Rattle.std.proofs.Common.{◌≡◌, ◌∙◌, ℕ, ◌+◌, ◌*◌, List, [], ◌∷◌, ◌++◌, get_or, set, drop, refl, sym, ap, subst, Bool, true, false}
-use Rattle.std.specs.Prelude.{Option, Some, None, Ok, Err, if◌then◌else◌, not, ◌==◌, ◌&&◌, ◌||◌, slice_get}
+use Rattle.std.specs.Prelude.{map, Option, Some, None, Ok, Err, if◌then◌else◌, not, ◌==◌, ◌&&◌, ◌||◌, slice_get}
 use Rattle.std.specs.List.{find, filter, position, list_any}
 use Rattle.std.specs.Option.{is_some}
 use Rattle.uh_base.specs.declared.guid.Guid.{Guid}
@@ -10,7 +10,7 @@ use Rattle.handle_db.specs.Calls.{Done as HandleDone, is_full, with_handle, inst
 use Rattle.protocol_db.proofs.ListLemmas.{find_none, find_some, unchanged, change_some}
 use Rattle.protocol_db.specs.declared.refusal.ProtocolRefusal.TheVariants.{AccessDenied, Full}
 use Rattle.protocol_db.specs.Opening.{is_held}
-use Rattle.protocol_db.specs.Registrations.{Registration, Protocols, is_numbered, is_for, untold, events_for, all_told, none_told, first_pending, first_taken}
+use Rattle.protocol_db.specs.Registrations.{Registration, Protocols, is_numbered, is_for, is_for_any, pended, silenced, events_for, notified, all_notified, all_silenced, first_pending, first_taken}
 use Rattle.protocol_db.specs.Calls.{target_in, installation, uninstalled, uninstallation, reinstalled, reinstallation}
 
 -- the handle on which an install is
@@ -30,7 +30,7 @@ given_by d n guid interface done (Some h) e = by (list_any (has_guid guid) h.pro
     by true k = absurd (cc)
     by false k = let is : record { handle = n; database = with_protocols d n (h.protocols ++ fresh guid interface ∷ []) } ≡ done = cc in subst (λ (it : HandleDone). it.handle ≡ n) is refl
 
-target_is : (d : Database) (number : Option ℕ) (guid : Guid) (interface target : ℕ) (done : HandleDone) → target_in d number ≡ Some target → handle_installation d number guid interface ≡ Ok done → done.handle ≡ target
+pub target_is : (d : Database) (number : Option ℕ) (guid : Guid) (interface target : ℕ) (done : HandleDone) → target_in d number ≡ Some target → handle_installation d number guid interface ≡ Ok done → done.handle ≡ target
 unfolding handle_installation
 target_is d None guid interface target done t e = target_by d guid interface target done (is_full d) t e
 target_is d (Some n) guid interface target done t e = let same : n ≡ target = cc in given_by d n guid interface done (handle_in d n) e ∙ same
@@ -39,7 +39,7 @@ full_by : (n : ℕ) (done : HandleDone) (full : Bool) → (if full then None els
 full_by n done true t = refl
 full_by n done false t = absurd (cc)
 
-full_is : (d : Database) (number : Option ℕ) (guid : Guid) (interface : ℕ) → target_in d number ≡ None → handle_installation d number guid interface ≡ Err handle.Full
+pub full_is : (d : Database) (number : Option ℕ) (guid : Guid) (interface : ℕ) → target_in d number ≡ None → handle_installation d number guid interface ≡ Err handle.Full
 unfolding handle_installation
 full_is d None guid interface t = full_by (16 * (d.made + 1)) (record { handle = 16 * (d.made + 1); database = with_handle d guid interface }) (is_full d) t
 full_is d (Some n) guid interface t = absurd (cc)
@@ -48,14 +48,30 @@ pub install_full : (p : Protocols) (number : Option ℕ) (guid : Guid) (interfac
 unfolding installation
 install_full p number guid interface r is none = rw (full_is p.handles number guid interface (sym is ∙ none)) refl
 
+-- one pair alone
+one_pair : (guid : Guid) (interface n : ℕ) (rs : List Registration) → all_notified rs (is_for_any ((guid, interface) ∷ [])) n ≡ all_notified rs (is_for guid) n
+unfolding all_notified
+one_pair guid interface n [] = refl
+one_pair guid interface n (r ∷ rs) = by (is_for guid r) (one_pair guid interface n rs)
+  where
+    by : (b : Bool) → map (notified (is_for_any ((guid, interface) ∷ [])) n) rs ≡ map (notified (is_for guid) n) rs
+        → (if b || false then record r { pending = pended n r.pending } else r) ∷ map (notified (is_for_any ((guid, interface) ∷ [])) n) rs ≡ (if b then record r { pending = pended n r.pending } else r) ∷ map (notified (is_for guid) n) rs
+    by true more = ap (λ qs. record r { pending = pended n r.pending } ∷ qs) more
+    by false more = ap (λ qs. r ∷ qs) more
+
+put_one : (p : Protocols) (hs : Database) (before after : List Registration) (made : ℕ) (guid : Guid) (interface n : ℕ) → record { handles = hs; registrations = before; made = made } ≡ p
+    → after ≡ all_notified before (is_for_any ((guid, interface) ∷ [])) n → after ≡ all_notified p.registrations (is_for guid) n
+put_one p hs before after made guid interface n e put = put ∙ one_pair guid interface n before ∙ ap (λ (q : Protocols). all_notified q.registrations (is_for guid) n) e
+
 pub install_here : (p : Protocols) (hs d : Database) (before after : List Registration) (made : ℕ) (number : Option ℕ) (guid : Guid) (interface target h : ℕ) (r : Option ℕ) (events : List ℕ) → record { handles = hs; registrations = before; made = made } ≡ p
-    → handle_installation hs number guid interface ≡ Ok (record { handle = h; database = d }) → r ≡ target_in p.handles number → r ≡ Some target → events ≡ events_for p.registrations guid → after ≡ all_told p.registrations guid target
+    → handle_installation hs number guid interface ≡ Ok (record { handle = h; database = d }) → r ≡ target_in p.handles number → r ≡ Some target → events ≡ events_for p.registrations guid → after ≡ all_notified before (is_for_any ((guid, interface) ∷ [])) target
     → installation p number guid interface ≡ Ok (record { answer = record { handle = h; events = events }; after = record { handles = d; registrations = after; made = made } })
 unfolding installation
-install_here p hs d before after made number guid interface target h r events e done is some k l =
+install_here p hs d before after made number guid interface target h r events e done is some k put =
     let there : handle_installation p.handles number guid interface ≡ Ok (record { handle = h; database = d }) = ap (λ (q : Protocols). handle_installation q.handles number guid interface) (sym e) ∙ done in
     let same : h ≡ target = target_is p.handles number guid interface target (record { handle = h; database = d }) (sym is ∙ some) there in
     let counts : made ≡ p.made = ap (λ (q : Protocols). q.made) e in
+    let l = put_one p hs before after made guid interface target e put in
     rw there (rw k (rw l (rw counts (rw (← same) refl))))
 
 -- what can be taken away
@@ -121,7 +137,7 @@ uninstall_barred p n guid interface r is t =
     ap (λ it. uninstalled p n guid it) k.1 ∙ held_there p n guid k.0 h.1
 
 pub uninstall_here : (p : Protocols) (hs d : Database) (before after : List Registration) (made : ℕ) (n : ℕ) (guid : Guid) (interface : ℕ) (r : Bool) → record { handles = hs; registrations = before; made = made } ≡ p
-    → removal hs n guid interface ≡ Ok d → r ≡ (has_interface_in p.handles n guid interface && is_held p.handles n guid) → r ≡ false → after ≡ none_told before guid n
+    → removal hs n guid interface ≡ Ok d → r ≡ (has_interface_in p.handles n guid interface && is_held p.handles n guid) → r ≡ false → after ≡ all_silenced before guid n
     → uninstallation p n guid interface ≡ Ok (record { handles = d; registrations = after; made = made })
 unfolding uninstallation
 uninstall_here p hs d before after made n guid interface r e done is f k =
@@ -139,13 +155,14 @@ reinstall_barred p n guid old new r is t =
     ap (λ it. reinstalled p n guid it) k.1 ∙ held_again p n guid k.0 h.1
 
 pub reinstall_here : (p : Protocols) (hs d : Database) (before after : List Registration) (made : ℕ) (n : ℕ) (guid : Guid) (old new : ℕ) (r : Bool) (events : List ℕ) → record { handles = hs; registrations = before; made = made } ≡ p
-    → replacement hs n guid old new ≡ Ok d → r ≡ (has_interface_in p.handles n guid old && is_held p.handles n guid) → r ≡ false → events ≡ events_for p.registrations guid → after ≡ all_told p.registrations guid n
+    → replacement hs n guid old new ≡ Ok d → r ≡ (has_interface_in p.handles n guid old && is_held p.handles n guid) → r ≡ false → events ≡ events_for p.registrations guid → after ≡ all_notified before (is_for_any ((guid, new) ∷ [])) n
     → reinstallation p n guid old new ≡ Ok (record { answer = record { handle = n; events = events }; after = record { handles = d; registrations = after; made = made } })
 unfolding reinstallation
-reinstall_here p hs d before after made n guid old new r events e done is f k l =
+reinstall_here p hs d before after made n guid old new r events e done is f k put =
     let there : replacement p.handles n guid old new ≡ Ok d = ap (λ (q : Protocols). replacement q.handles n guid old new) (sym e) ∙ done in
     let free : is_held p.handles n guid ≡ false = not_both (has_interface_in p.handles n guid old) (is_held p.handles n guid) (sym is ∙ f) (replacement_has p.handles d n guid old new there) in
     let counts : made ≡ p.made = ap (λ (q : Protocols). q.made) e in
+    let l = put_one p hs before after made guid new n e put in
     rw there (rw free (rw k (rw l (rw counts refl))))
 
 -- a registration's notices
@@ -190,8 +207,8 @@ some_taken p n i hs rs made x y r e is some read gives =
     subst (λ (q : Protocols). record { handles = hs; registrations = set rs i y; made = made } ≡ record q { registrations = at_first (is_numbered n) (λ r. record r { pending = drop 1 r.pending }) q.registrations }) e (ap (λ qs. record { handles = hs; registrations = qs; made = made }) step)
 
 -- one registration that has a handle pending no more
-pub untold_here : (guid g : Guid) (n number event : ℕ) (before after : List ℕ) (r : Registration) (b : Bool) → record { number = number; guid = g; event = event; pending = before } ≡ r → b ≡ is_for guid r → b ≡ true → after ≡ filter (λ h. not (h == n)) before
-    → record { number = number; guid = g; event = event; pending = after } ≡ untold guid n r
-untold_here guid g n number event before after r b e is t k =
+pub silenced_here : (guid g : Guid) (n number event : ℕ) (before after : List ℕ) (r : Registration) (b : Bool) → record { number = number; guid = g; event = event; pending = before } ≡ r → b ≡ is_for guid r → b ≡ true → after ≡ filter (λ h. not (h == n)) before
+    → record { number = number; guid = g; event = event; pending = after } ≡ silenced guid n r
+silenced_here guid g n number event before after r b e is t k =
     let yes : is_for guid r ≡ true = sym is ∙ t in
     rw yes (subst (λ (q : Registration). record { number = number; guid = g; event = event; pending = after } ≡ record q { pending = filter (λ h. not (h == n)) q.pending }) e (ap (λ ps. record { number = number; guid = g; event = event; pending = ps }) k))

@@ -1,5 +1,5 @@
 -- What the definitions come to.
-use Rattle.std.proofs.Common.{◌≡◌, ℕ, List, [], ◌∷◌, ◌++◌, refl, subst, arith, Bool, true, false}
+use Rattle.std.proofs.Common.{◌≡◌, ℕ, List, [], ◌∷◌, ◌++◌, ◌∙◌, refl, ap, subst, arith, Bool, true, false}
 use Rattle.std.specs.Prelude.{map, Some, Result, Ok, Err, if◌then◌else◌, not, ◌==◌, ◌||◌}
 use Rattle.std.specs.List.{filter, list_any, All}
 use Rattle.std.proofs.lemmas.Bool.Decides.{nat_tests}
@@ -7,27 +7,27 @@ use Rattle.std.proofs.lemmas.List.Elements.{All-nil, All-cons}
 use Rattle.uh_base.specs.declared.guid.Guid.{Guid}
 use Rattle.handle_db.specs.declared.refusal.HandleRefusal.{HandleRefusal}
 use Rattle.handle_db.specs.Database.{Database, protocol_in, fresh}
-use Rattle.handle_db.specs.Calls.{Done as HandleDone, installation as handle_installation, removal, replacement}
+use Rattle.handle_db.specs.Calls.{Done as HandleDone, AllDone as AllHandleDone, installation as handle_installation, installation_of_all as handle_installation_of_all, removal, replacement}
 use Rattle.handle_db.specs.Laws.{RemovedIsGone, ReplacedIsFresh, DiscardedIsGone}
 use Rattle.protocol_db.proofs.ListLemmas.{none_left}
 use Rattle.protocol_db.specs.declared.refusal.ProtocolRefusal.TheVariants.{AccessDenied}
 use Rattle.protocol_db.specs.Opening.{is_held}
-use Rattle.protocol_db.specs.Registrations.{Registration, Protocols, is_for, pended, told, untold, all_told, none_told}
-use Rattle.protocol_db.specs.Calls.{Done, Installation, announced, installed, installation, withdrawn, uninstalled, uninstallation, reinstalled, reinstallation, dropped}
-use Rattle.protocol_db.specs.Laws.{IsWithdrawn, UninstalledIsWithdrawn, DroppedIsWithdrawn, ReinstalledIsFresh, InstalledIsPending}
+use Rattle.protocol_db.specs.Registrations.{Registration, Protocols, is_for, is_for_any, pended, notified, silenced, all_notified, all_silenced}
+use Rattle.protocol_db.specs.Calls.{Done, Installation, InstallationOfAll, all_announced, all_installed, installation_of_all, announced, installed, installation, withdrawn, uninstalled, uninstallation, reinstalled, reinstallation, discarded}
+use Rattle.protocol_db.specs.Laws.{IsWithdrawn, UninstalledIsWithdrawn, DiscardedIsWithdrawn, ReinstalledIsFresh, InstalledIsPending, AllInstalledArePending}
 
--- a registration that was told, or is told no more
-silent_one : (guid : Guid) (n : ℕ) (r : Registration) → is_for guid (untold guid n r) ≡ true → list_any (λ h. h == n) (untold guid n r).pending ≡ false
+-- a registration that has a handle pending no more, or has it pending
+silent_one : (guid : Guid) (n : ℕ) (r : Registration) → is_for guid (silenced guid n r) ≡ true → list_any (λ h. h == n) (silenced guid n r).pending ≡ false
 silent_one guid n r = by (is_for guid r) refl
   where
     by : (b : Bool) → is_for guid r ≡ b → is_for guid (if b then record r { pending = filter (λ h. not (h == n)) r.pending } else r) ≡ true → list_any (λ h. h == n) (if b then record r { pending = filter (λ h. not (h == n)) r.pending } else r).pending ≡ false
     by true e h = none_left (λ h. h == n) r.pending
     by false e h = absurd (cc)
 
-silent_all : (guid : Guid) (n : ℕ) (rs : List Registration) → All (λ (r : Registration). is_for guid r ≡ true → list_any (λ h. h == n) r.pending ≡ false) (none_told rs guid n)
-unfolding none_told
+silent_all : (guid : Guid) (n : ℕ) (rs : List Registration) → All (λ (r : Registration). is_for guid r ≡ true → list_any (λ h. h == n) r.pending ≡ false) (all_silenced rs guid n)
+unfolding all_silenced
 silent_all guid n [] = All-nil (λ (r : Registration). is_for guid r ≡ true → list_any (λ h. h == n) r.pending ≡ false)
-silent_all guid n (r ∷ rs) = All-cons (λ (r : Registration). is_for guid r ≡ true → list_any (λ h. h == n) r.pending ≡ false) (untold guid n r) (map (untold guid n) rs) (silent_one guid n r) (silent_all guid n rs)
+silent_all guid n (r ∷ rs) = All-cons (λ (r : Registration). is_for guid r ≡ true → list_any (λ h. h == n) r.pending ≡ false) (silenced guid n r) (map (silenced guid n) rs) (silent_one guid n r) (silent_all guid n rs)
 
 itself : (n : ℕ) → (n == n) ≡ true
 itself n = grind (arith, nat_tests)
@@ -47,17 +47,21 @@ pended_is n pending = by (list_any (λ h. h == n) pending) refl
     by true e = e
     by false e = last_is n pending
 
-pending_one : (guid : Guid) (n : ℕ) (r : Registration) → is_for guid (told guid n r) ≡ true → list_any (λ h. h == n) (told guid n r).pending ≡ true
-pending_one guid n r = by (is_for guid r) refl
+-- a test of a registration that its pending handles don't bear upon
+abbrev Stays : (Registration → Bool) → Type 0
+Stays test = (r : Registration) (pending : List ℕ) → test (record r { pending = pending }) ≡ test r
+
+pending_one : (test : Registration → Bool) (n : ℕ) (r : Registration) → Stays test → test (notified test n r) ≡ true → list_any (λ h. h == n) (notified test n r).pending ≡ true
+pending_one test n r stays = by (test r) refl
   where
-    by : (b : Bool) → is_for guid r ≡ b → is_for guid (if b then record r { pending = pended n r.pending } else r) ≡ true → list_any (λ h. h == n) (if b then record r { pending = pended n r.pending } else r).pending ≡ true
+    by : (b : Bool) → test r ≡ b → test (if b then record r { pending = pended n r.pending } else r) ≡ true → list_any (λ h. h == n) (if b then record r { pending = pended n r.pending } else r).pending ≡ true
     by true e h = pended_is n r.pending
     by false e h = absurd (cc)
 
-pending_all : (guid : Guid) (n : ℕ) (rs : List Registration) → All (λ (r : Registration). is_for guid r ≡ true → list_any (λ h. h == n) r.pending ≡ true) (all_told rs guid n)
-unfolding all_told
-pending_all guid n [] = All-nil (λ (r : Registration). is_for guid r ≡ true → list_any (λ h. h == n) r.pending ≡ true)
-pending_all guid n (r ∷ rs) = All-cons (λ (r : Registration). is_for guid r ≡ true → list_any (λ h. h == n) r.pending ≡ true) (told guid n r) (map (told guid n) rs) (pending_one guid n r) (pending_all guid n rs)
+pending_all : (test : Registration → Bool) (n : ℕ) (rs : List Registration) → Stays test → All (λ (r : Registration). test r ≡ true → list_any (λ h. h == n) r.pending ≡ true) (all_notified rs test n)
+unfolding all_notified
+pending_all test n [] stays = All-nil (λ (r : Registration). test r ≡ true → list_any (λ h. h == n) r.pending ≡ true)
+pending_all test n (r ∷ rs) stays = All-cons (λ (r : Registration). test r ≡ true → list_any (λ h. h == n) r.pending ≡ true) (notified test n r) (map (notified test n) rs) (pending_one test n r stays) (pending_all test n rs stays)
 
 -- what goes
 uninstalled_by : RemovedIsGone → (p new : Protocols) (n : ℕ) (guid : Guid) (interface : ℕ) (o : Result Database HandleRefusal) → removal p.handles n guid interface ≡ o → uninstalled p n guid o ≡ Ok new → IsWithdrawn new n guid
@@ -72,9 +76,9 @@ pub uninstalled_is_withdrawn : RemovedIsGone → UninstalledIsWithdrawn
 unfolding uninstallation
 uninstalled_is_withdrawn gone p new n guid interface e = uninstalled_by gone p new n guid interface (removal p.handles n guid interface) refl e
 
-pub dropped_is_withdrawn : DiscardedIsGone → DroppedIsWithdrawn
-unfolding dropped
-dropped_is_withdrawn gone p n guid there = rw there (record { gone = gone p.handles n guid; silent = silent_all guid n p.registrations })
+pub discarded_is_withdrawn : DiscardedIsGone → DiscardedIsWithdrawn
+unfolding discarded
+discarded_is_withdrawn gone p n guid there = rw there (record { gone = gone p.handles n guid; silent = silent_all guid n p.registrations })
 
 -- what comes
 reinstalled_by : ReplacedIsFresh → (p : Protocols) (done : Done Installation) (n : ℕ) (guid : Guid) (old new : ℕ) (o : Result Database HandleRefusal) → replacement p.handles n guid old new ≡ o → reinstalled p n guid o ≡ Ok done → protocol_in done.after.handles n guid ≡ Some (fresh guid new)
@@ -93,8 +97,21 @@ installed_by : (p : Protocols) (done : Done Installation) (guid : Guid) (o : Res
 installed_by p done guid (Err refusal) h = absurd (cc)
 installed_by p done guid (Ok it) h =
     let is : announced p it.database it.handle guid ≡ done = cc in
-    subst (λ (q : Done Installation). All (λ (r : Registration). is_for guid r ≡ true → list_any (λ h. h == q.answer.handle) r.pending ≡ true) q.after.registrations) is (pending_all guid it.handle p.registrations)
+    subst (λ (q : Done Installation). All (λ (r : Registration). is_for guid r ≡ true → list_any (λ h. h == q.answer.handle) r.pending ≡ true) q.after.registrations) is (pending_all (is_for guid) it.handle p.registrations (λ r pending. refl))
 
 pub installed_is_pending : InstalledIsPending
 unfolding installation
 installed_is_pending p done number guid interface e = installed_by p done guid (handle_installation p.handles number guid interface) e
+
+all_pending_by : (p : Protocols) (done : Done InstallationOfAll) (pairs : List (Guid × ℕ)) (handle : ℕ) (o : Result AllHandleDone HandleRefusal) → all_installed p pairs o ≡ Ok done → done.answer.handle ≡ Some handle
+    → All (λ (r : Registration). is_for_any pairs r ≡ true → list_any (λ h. h == handle) r.pending ≡ true) done.after.registrations
+all_pending_by p done pairs handle (Err refusal) e h = absurd (cc)
+all_pending_by p done pairs handle (Ok it) e h =
+    let is : all_announced p pairs it ≡ done = cc in
+    let given : it.handle ≡ Some handle = ap (λ (q : Done InstallationOfAll). q.answer.handle) is ∙ h in
+    subst (λ (q : Done InstallationOfAll). All (λ (r : Registration). is_for_any pairs r ≡ true → list_any (λ k. k == handle) r.pending ≡ true) q.after.registrations) is
+    (rw given (pending_all (is_for_any pairs) handle p.registrations (λ r pending. refl)))
+
+pub all_installed_are_pending : AllInstalledArePending
+unfolding installation_of_all
+all_installed_are_pending p done number pairs handle e h = all_pending_by p done pairs handle (handle_installation_of_all p.handles number pairs) e h

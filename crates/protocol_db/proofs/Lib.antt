@@ -1,5 +1,7 @@
 pub mod ListLemmas
 pub mod WholeLemmas
 pub mod CallLemmas
+pub mod PendingLemmas
+pub mod AllLemmas
 pub mod LawLemmas
 pub mod AloneLemmas

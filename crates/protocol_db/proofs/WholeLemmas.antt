@@ -1,6 +1,6 @@
 -- What the calls leave so of every state.
-use Rattle.std.proofs.Common.{◌≡◌, ◌∙◌, ℕ, zero, suc, ◌+◌, ◌-◌, ◌*◌, ◌<◌, ◌^◌, List, [], ◌∷◌, ◌++◌, length, length-append, get_or, drop, refl, sym, ap, subst, arith, Bool, true, false}
-use Rattle.std.specs.Prelude.{map, Option, Some, None, if◌then◌else◌, not, ◌==◌, ◌||◌, MatchOption}
+use Rattle.std.proofs.Common.{◌≡◌, ℕ, zero, suc, ◌+◌, ◌-◌, ◌*◌, ◌<◌, ◌^◌, List, [], ◌∷◌, ◌++◌, length, length-append, get_or, drop, refl, ap, subst, arith, Bool, true, false}
+use Rattle.std.specs.Prelude.{map, if◌then◌else◌, not, ◌==◌}
 use Rattle.std.specs.List.{filter, list_any, AllPairs}
 use Rattle.std.proofs.lemmas.List.{length-map}
 use Rattle.std.proofs.lemmas.List.Sums.{length-filter, count_by-le-length}
@@ -11,7 +11,7 @@ use Rattle.uh_base.specs.declared.guid.Guid.{Guid}
 use Rattle.handle_db.specs.Database.{Database}
 use Rattle.handle_db.specs.Whole.{IsDatabase}
 use Rattle.protocol_db.proofs.ListLemmas.{none_passes, pairs_at, all_at, length_at}
-use Rattle.protocol_db.specs.Registrations.{Registration, Protocols, is_numbered, is_for, pended, told, untold, all_told, none_told, first_taken}
+use Rattle.protocol_db.specs.Registrations.{Registration, Protocols, is_numbered, is_for, pended, notified, silenced, all_notified, all_silenced, first_taken}
 use Rattle.protocol_db.specs.Calls.{forgotten, with_registration}
 use Rattle.protocol_db.specs.Whole.{IsRegistration, IsWhole}
 
@@ -34,59 +34,59 @@ pended_once n pending all = by (list_any (λ h. h == n) pending) refl
     by true e = all
     by false e = all_pairs_push (λ (a b : ℕ). (a == b) ≡ false) pending n all (λ k d l. none_passes (λ h. h == n) pending k d l e)
 
-told_is : (made : ℕ) (guid : Guid) (n : ℕ) (r : Registration) → IsRegistration made r → IsRegistration made (told guid n r)
-told_is made guid n r all = by (is_for guid r)
+notified_is : (made : ℕ) (is_concerned : Registration → Bool) (n : ℕ) (r : Registration) → IsRegistration made r → IsRegistration made (notified is_concerned n r)
+notified_is made is_concerned n r all = by (is_concerned r)
   where
     by : (b : Bool) → IsRegistration made (if b then record r { pending = pended n r.pending } else r)
     by true = record { once = pended_once n r.pending all.once; shown = all.shown; from = all.from; to = all.to }
     by false = all
 
-untold_is : (made : ℕ) (guid : Guid) (n : ℕ) (r : Registration) → IsRegistration made r → IsRegistration made (untold guid n r)
-untold_is made guid n r all = by (is_for guid r)
+silenced_is : (made : ℕ) (guid : Guid) (n : ℕ) (r : Registration) → IsRegistration made r → IsRegistration made (silenced guid n r)
+silenced_is made guid n r all = by (is_for guid r)
   where
     by : (b : Bool) → IsRegistration made (if b then record r { pending = filter (λ h. not (h == n)) r.pending } else r)
     by true = record { once = AllPairs-filter (λ (a b : ℕ). (a == b) ≡ false) (λ h. not (h == n)) r.pending all.once; shown = all.shown; from = all.from; to = all.to }
     by false = all
 
-told_number : (guid : Guid) (n : ℕ) (r : Registration) → (told guid n r).number ≡ r.number
-told_number guid n r = by (is_for guid r)
+notified_number : (is_concerned : Registration → Bool) (n : ℕ) (r : Registration) → (notified is_concerned n r).number ≡ r.number
+notified_number is_concerned n r = by (is_concerned r)
   where
     by : (b : Bool) → (if b then record r { pending = pended n r.pending } else r).number ≡ r.number
     by true = refl
     by false = refl
 
-untold_number : (guid : Guid) (n : ℕ) (r : Registration) → (untold guid n r).number ≡ r.number
-untold_number guid n r = by (is_for guid r)
+silenced_number : (guid : Guid) (n : ℕ) (r : Registration) → (silenced guid n r).number ≡ r.number
+silenced_number guid n r = by (is_for guid r)
   where
     by : (b : Bool) → (if b then record r { pending = filter (λ h. not (h == n)) r.pending } else r).number ≡ r.number
     by true = refl
     by false = refl
 
--- the registrations of a GUID are told of a handle
-pub told_whole : (p : Protocols) (d : Database) (guid : Guid) (n : ℕ) → IsWhole p → IsDatabase d → IsWhole (record p { handles = d; registrations = all_told p.registrations guid n })
-unfolding all_told
-told_whole p d guid n all there =
+-- the registrations that are concerned have a handle pending
+pub notified_whole : (p : Protocols) (d : Database) (is_concerned : Registration → Bool) (n : ℕ) → IsWhole p → IsDatabase d → IsWhole (record p { handles = d; registrations = all_notified p.registrations is_concerned n })
+unfolding all_notified
+notified_whole p d is_concerned n all there =
     let few = all.few in
-    let len = length-map p.registrations (told guid n) in
+    let len = length-map p.registrations (notified is_concerned n) in
     record {
       handles = there;
       few = omega (arith, few, len);
       made = all.made;
-      registrations = All-map (IsRegistration p.made) (told guid n) p.registrations (All-weaker (IsRegistration p.made) (λ r. IsRegistration p.made (told guid n r)) (λ r h. told_is p.made guid n r h) p.registrations all.registrations);
-      order = pairs_map ◌<◌ (λ (r : Registration). r.number) (told guid n) (λ r. told_number guid n r) p.registrations all.order;
+      registrations = All-map (IsRegistration p.made) (notified is_concerned n) p.registrations (All-weaker (IsRegistration p.made) (λ r. IsRegistration p.made (notified is_concerned n r)) (λ r h. notified_is p.made is_concerned n r h) p.registrations all.registrations);
+      order = pairs_map ◌<◌ (λ (r : Registration). r.number) (notified is_concerned n) (λ r. notified_number is_concerned n r) p.registrations all.order;
     }
 
-pub untold_whole : (p : Protocols) (d : Database) (guid : Guid) (n : ℕ) → IsWhole p → IsDatabase d → IsWhole (record p { handles = d; registrations = none_told p.registrations guid n })
-unfolding none_told
-untold_whole p d guid n all there =
+pub silenced_whole : (p : Protocols) (d : Database) (guid : Guid) (n : ℕ) → IsWhole p → IsDatabase d → IsWhole (record p { handles = d; registrations = all_silenced p.registrations guid n })
+unfolding all_silenced
+silenced_whole p d guid n all there =
     let few = all.few in
-    let len = length-map p.registrations (untold guid n) in
+    let len = length-map p.registrations (silenced guid n) in
     record {
       handles = there;
       few = omega (arith, few, len);
       made = all.made;
-      registrations = All-map (IsRegistration p.made) (untold guid n) p.registrations (All-weaker (IsRegistration p.made) (λ r. IsRegistration p.made (untold guid n r)) (λ r h. untold_is p.made guid n r h) p.registrations all.registrations);
-      order = pairs_map ◌<◌ (λ (r : Registration). r.number) (untold guid n) (λ r. untold_number guid n r) p.registrations all.order;
+      registrations = All-map (IsRegistration p.made) (silenced guid n) p.registrations (All-weaker (IsRegistration p.made) (λ r. IsRegistration p.made (silenced guid n r)) (λ r h. silenced_is p.made guid n r h) p.registrations all.registrations);
+      order = pairs_map ◌<◌ (λ (r : Registration). r.number) (silenced guid n) (λ r. silenced_number guid n r) p.registrations all.order;
     }
 
 -- other handles
@@ -142,37 +142,16 @@ taken_whole p number all =
     }
 
 -- what a call writes
-pub told_write : (p : Protocols) (hs d : Database) (before after : List Registration) (made : ℕ) (guid : Guid) (n : ℕ) → record { handles = hs; registrations = before; made = made } ≡ p → IsWhole (record { handles = hs; registrations = before; made = made }) → IsDatabase d → after ≡ all_told p.registrations guid n
+pub notified_write : (hs d : Database) (before after : List Registration) (made : ℕ) (is_concerned : Registration → Bool) (n : ℕ) → IsWhole (record { handles = hs; registrations = before; made = made }) → IsDatabase d → after ≡ all_notified before is_concerned n
     → IsWhole (record { handles = d; registrations = after; made = made })
-told_write p hs d before after made guid n e all there k =
-    let is : record { handles = d; registrations = after; made = made } ≡ record p { handles = d; registrations = all_told p.registrations guid n } =
-    ap (λ rs. record { handles = d; registrations = rs; made = made }) k ∙ ap (λ (q : Protocols). record { handles = d; registrations = all_told p.registrations guid n; made = q.made }) e in
-    subst IsWhole (sym is) (told_whole p d guid n (subst IsWhole e all) there)
+notified_write hs d before after made is_concerned n all there k =
+    rw k (notified_whole (record { handles = hs; registrations = before; made = made }) d is_concerned n all there)
 
-pub untold_write : (p : Protocols) (hs d : Database) (before after : List Registration) (made : ℕ) (guid : Guid) (n : ℕ) → IsWhole (record { handles = hs; registrations = before; made = made }) → IsDatabase d → after ≡ none_told before guid n
+pub silenced_write : (p : Protocols) (hs d : Database) (before after : List Registration) (made : ℕ) (guid : Guid) (n : ℕ) → IsWhole (record { handles = hs; registrations = before; made = made }) → IsDatabase d → after ≡ all_silenced before guid n
     → IsWhole (record { handles = d; registrations = after; made = made })
-untold_write p hs d before after made guid n all there k =
-    rw k (untold_whole (record { handles = hs; registrations = before; made = made }) d guid n all there)
+silenced_write p hs d before after made guid n all there k =
+    rw k (silenced_whole (record { handles = hs; registrations = before; made = made }) d guid n all there)
 
 pub forgotten_write : (p : Protocols) (hs : Database) (before after : List Registration) (made event : ℕ) → record { handles = hs; registrations = before; made = made } ≡ p → after ≡ filter (λ r. not (r.event == event)) before → record { handles = hs; registrations = after; made = made } ≡ forgotten p event
 unfolding forgotten
 forgotten_write p hs before after made event e k = subst (λ (q : Protocols). record { handles = hs; registrations = after; made = made } ≡ record q { registrations = filter (λ r. not (r.event == event)) q.registrations }) e (ap (λ rs. record { handles = hs; registrations = rs; made = made }) k)
-
--- where no registration is for a GUID, none is told
-none_for : (guid : Guid) (n : ℕ) (rs : List Registration) → list_any (is_for guid) rs ≡ false → map (told guid n) rs ≡ rs
-none_for guid n [] e = refl
-none_for guid n (r ∷ rs) e = by (is_for guid r) e (none_for guid n rs)
-  where
-    by : (b : Bool) → (b || list_any (is_for guid) rs) ≡ false → (list_any (is_for guid) rs ≡ false → map (told guid n) rs ≡ rs) → (if b then record r { pending = pended n r.pending } else r) ∷ map (told guid n) rs ≡ r ∷ rs
-    by true h more = absurd (cc)
-    by false h more = ap (λ qs. r ∷ qs) (more h)
-
-pub nobody_told : (guid : Guid) (n : ℕ) (rs : List Registration) (b : Bool) → b ≡ list_any (is_for guid) rs → b ≡ false → all_told rs guid n ≡ rs
-unfolding all_told
-nobody_told guid n rs b is f = none_for guid n rs (sym is ∙ f)
-
--- what is put in place
-pub put_is : {V : Type 0} (items : V → List Registration) (o : Option V) (p : Protocols) (hs : Database) (before after wanted : List Registration) (made : ℕ) → record { handles = hs; registrations = before; made = made } ≡ p
-    → MatchOption o (wanted ≡ p.registrations) (λ v. items v ≡ wanted) → MatchOption o (after ≡ before) (λ v. after ≡ items v) → after ≡ wanted
-put_is items None p hs before after wanted made e told put = put ∙ ap (λ (q : Protocols). q.registrations) e ∙ sym told
-put_is items (Some v) p hs before after wanted made e told put = put ∙ told

@@ -1,17 +1,17 @@
 -- What the calls on protocols answer, and the lists behind them (UEFI 2.10, section 7.3).
 use Rattle.std.specs.Prelude.{ℕ, ◌≡◌, ◌+◌, ◌-◌, ◌^◌, ◌==◌, ◌&&◌, ◌||◌, not, Bool, false, List, [], ◌∷◌, ◌++◌, length, nat_le, Option, Some, None, Result, Ok, Err, if◌then◌else◌}
-use Rattle.std.specs.List.{filter, list_any}
+use Rattle.std.specs.List.{filter, fold, list_any}
 use Rattle.std.specs.Option.{is_some}
 use Rattle.uh_base.specs.declared.guid.Guid.{Guid}
 use Rattle.handle_db.specs.declared.entry.OpenEntry.{OpenEntry}
 use Rattle.handle_db.specs.declared.refusal.HandleRefusal.{HandleRefusal}
 use Rattle.handle_db.specs.declared.refusal.HandleRefusal.TheVariants as handle
-use Rattle.handle_db.specs.Database.{Database, is_handle, protocol_in, opens_in, reopened, is_between, closed, with_open}
-use Rattle.handle_db.specs.Calls.{Done as HandleDone, installation as handle_installation, next_in, removal, replacement, discarded}
+use Rattle.handle_db.specs.Database.{Database, same_guid, is_handle, protocol_in, opens_in, reopened, is_between, closed, with_open}
+use Rattle.handle_db.specs.Calls.{Done as HandleDone, AllDone as AllHandleDone, installation as handle_installation, installation_of_all as handle_installation_of_all, next_in, has_interface_in, stays_live, removal, replacement, discarded as handle_discarded}
 use Rattle.protocol_db.specs.declared.request.OpenRequest.{OpenRequest}
 use Rattle.protocol_db.specs.declared.refusal.ProtocolRefusal.{ProtocolRefusal}
 use Rattle.protocol_db.specs.declared.refusal.ProtocolRefusal.TheVariants.{Invalid, NotFound, Unsupported, AccessDenied, AlreadyStarted, Full, Memory}
-use Rattle.protocol_db.specs.Registrations.{Protocols, shown_registration, events_for, all_told, none_told}
+use Rattle.protocol_db.specs.Registrations.{Registration, Protocols, shown_registration, events_for, is_for, is_for_any, events_for_all, all_notified, all_silenced}
 use Rattle.protocol_db.specs.Opening.{entry_of, opening, is_held}
 
 -- an answer, and what is behind it
@@ -36,11 +36,11 @@ refused handle.NotFound = NotFound
 refused handle.Full = Full
 refused handle.Memory = Memory
 
--- An interface is there, and the registrations of its GUID are told of its handle.
+-- An interface is there, and its handle is pending for the registrations of its GUID.
 abbrev pub announced : Protocols → Database → ℕ → Guid → Done Installation
 announced p d handle guid = record {
   answer = record { handle = handle; events = events_for p.registrations guid };
-  after = record p { handles = d; registrations = all_told p.registrations guid handle };
+  after = record p { handles = d; registrations = all_notified p.registrations (is_for guid) handle };
 }
 
 abbrev pub installed : Protocols → Guid → Result HandleDone HandleRefusal → Result (Done Installation) ProtocolRefusal
@@ -51,9 +51,34 @@ installed p guid (Err refusal) = Err (refused refusal)
 unfoldable pub installation : Protocols → Option ℕ → Guid → ℕ → Result (Done Installation) ProtocolRefusal
 installation p number guid interface = installed p guid (handle_installation p.handles number guid interface)
 
+-- the handle on which pairs were installed, none without a pair where none was given, and the events that are registered
+-- for their GUIDs, pair by pair
+pub record InstallationOfAll : Type 0 where
+  pub handle : Option ℕ
+  pub events : List ℕ
+
+abbrev pub with_pending : List Registration → List (Guid × ℕ) → Option ℕ → List Registration
+with_pending registrations pairs None = registrations
+with_pending registrations pairs (Some handle) = all_notified registrations (is_for_any pairs) handle
+
+-- The interfaces of pairs are there, and their handle is pending for the registrations of their GUIDs.
+abbrev pub all_announced : Protocols → List (Guid × ℕ) → AllHandleDone → Done InstallationOfAll
+all_announced p pairs done = record {
+  answer = record { handle = done.handle; events = events_for_all p.registrations pairs };
+  after = record p { handles = done.database; registrations = with_pending p.registrations pairs done.handle };
+}
+
+abbrev pub all_installed : Protocols → List (Guid × ℕ) → Result AllHandleDone HandleRefusal → Result (Done InstallationOfAll) ProtocolRefusal
+all_installed p pairs (Ok done) = Ok (all_announced p pairs done)
+all_installed p pairs (Err refusal) = Err (refused refusal)
+
+-- InstallMultipleProtocolInterfaces: all pairs are installed on one handle, or none.
+unfoldable pub installation_of_all : Protocols → Option ℕ → List (Guid × ℕ) → Result (Done InstallationOfAll) ProtocolRefusal
+installation_of_all p number pairs = all_installed p pairs (handle_installation_of_all p.handles number pairs)
+
 -- An interface is gone, and its handle is pending for no registration of its GUID.
 abbrev pub withdrawn : Protocols → Database → ℕ → Guid → Protocols
-withdrawn p d number guid = record p { handles = d; registrations = none_told p.registrations guid number }
+withdrawn p d number guid = record p { handles = d; registrations = all_silenced p.registrations guid number }
 
 abbrev pub uninstalled : Protocols → ℕ → Guid → Result Database HandleRefusal → Result Protocols ProtocolRefusal
 uninstalled p number guid (Ok d) = if is_held p.handles number guid then Err AccessDenied else Ok (withdrawn p d number guid)
@@ -114,13 +139,47 @@ with_registration p guid event = record p { registrations = p.registrations ++ r
 unfoldable pub registration : Protocols → Guid → ℕ → Result (Done ℕ) ProtocolRefusal
 registration p guid event = if is_full p then Err Full else Ok (record { answer = shown_registration (p.made + 1); after = with_registration p guid event })
 
--- An event that is closed is told of nothing any more.
+-- An event that is closed is notified of nothing any more.
 unfoldable pub forgotten : Protocols → ℕ → Protocols
 forgotten p event = record p { registrations = filter (λ r. not (r.event == event)) p.registrations }
 
 -- A protocol goes whatever its interface and whoever opened it.
-unfoldable pub dropped : Protocols → ℕ → Guid → Protocols
-dropped p number guid = if is_some (protocol_in p.handles number guid) then withdrawn p (discarded p.handles number guid) number guid else p
+unfoldable pub discarded : Protocols → ℕ → Guid → Protocols
+discarded p number guid = if is_some (protocol_in p.handles number guid) then withdrawn p (handle_discarded p.handles number guid) number guid else p
+
+-- the protocols of pairs go
+abbrev pub all_discarded : Protocols → ℕ → List (Guid × ℕ) → Protocols
+all_discarded p number pairs = fold (λ q (pair : Guid × ℕ). discarded q number pair.0) p pairs
+
+-- A pair before has a GUID, which is gone with it.
+abbrev pub is_before : List (Guid × ℕ) → Guid → Bool
+is_before before guid = list_any (λ (pair : Guid × ℕ). same_guid pair.0 guid) before
+
+-- Why a pair isn't taken away after others. The handle is unknown, or has gone with the last of its protocols; or the
+-- interface isn't there, or has gone with a pair of its GUID; or an entry keeps it.
+unfoldable pub refusal_after : Database → ℕ → List (Guid × ℕ) → Guid × ℕ → Option ProtocolRefusal
+refusal_after d number before pair =
+    if not (stays_live d number before) then Some Invalid
+    else if not (has_interface_in d number pair.0 pair.1) || is_before before pair.0 then Some NotFound
+    else if is_held d number pair.0 then Some AccessDenied
+    else None
+
+abbrev pub or_later : Option ProtocolRefusal → Option ProtocolRefusal → Option ProtocolRefusal
+or_later None later = later
+or_later (Some refusal) later = Some refusal
+
+-- the refusal of the first of the pairs that isn't taken away after those before it
+unfoldable pub first_refusal : Database → ℕ → List (Guid × ℕ) → List (Guid × ℕ) → Option ProtocolRefusal
+first_refusal d number before [] = None
+first_refusal d number before (pair ∷ pairs) = or_later (refusal_after d number before pair) (first_refusal d number (before ++ pair ∷ []) pairs)
+
+abbrev pub all_uninstalled : Protocols → ℕ → List (Guid × ℕ) → Option ProtocolRefusal → Result Protocols ProtocolRefusal
+all_uninstalled p number pairs None = Ok (all_discarded p number pairs)
+all_uninstalled p number pairs (Some refusal) = Err refusal
+
+-- UninstallMultipleProtocolInterfaces: all pairs are taken away, or none.
+unfoldable pub uninstallation_of_all : Protocols → ℕ → List (Guid × ℕ) → Result Protocols ProtocolRefusal
+uninstallation_of_all p number pairs = all_uninstalled p number pairs (first_refusal p.handles number [] pairs)
 
 -- A call that answers so leads from one state to another. Want of memory may come at any call that takes some; then,
 -- as after each refusal, the state is as before.

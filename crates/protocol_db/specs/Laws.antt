@@ -7,8 +7,8 @@ use Rattle.handle_db.specs.Database.{Protocol, Handle, Database, protocol_in, fr
 use Rattle.handle_db.specs.declared.entry.OpenEntry.{OpenEntry}
 use Rattle.protocol_db.specs.declared.request.OpenRequest.{OpenRequest}
 use Rattle.protocol_db.specs.Opening.{is_alone}
-use Rattle.protocol_db.specs.Registrations.{Registration, Protocols, is_for}
-use Rattle.protocol_db.specs.Calls.{Done, Installation, installation, uninstallation, reinstallation, protocol_opening, closing, dropped}
+use Rattle.protocol_db.specs.Registrations.{Registration, Protocols, is_for, is_for_any}
+use Rattle.protocol_db.specs.Calls.{Done, Installation, InstallationOfAll, installation, installation_of_all, uninstallation, uninstallation_of_all, reinstallation, protocol_opening, closing, discarded}
 
 -- A handle hasn't a protocol, and so no opens of it, and is pending for no registration of it.
 pub record IsWithdrawn (p : Protocols) (number : ℕ) (guid : Guid) : Type 0 where
@@ -20,8 +20,8 @@ abbrev pub UninstalledIsWithdrawn : Type 0
 UninstalledIsWithdrawn = (p new : Protocols) (number : ℕ) (guid : Guid) (interface : ℕ) → uninstallation p number guid interface ≡ Ok new → IsWithdrawn new number guid
 
 -- So is what was discarded.
-abbrev pub DroppedIsWithdrawn : Type 0
-DroppedIsWithdrawn = (p : Protocols) (number : ℕ) (guid : Guid) → is_some (protocol_in p.handles number guid) ≡ true → IsWithdrawn (dropped p number guid) number guid
+abbrev pub DiscardedIsWithdrawn : Type 0
+DiscardedIsWithdrawn = (p : Protocols) (number : ℕ) (guid : Guid) → is_some (protocol_in p.handles number guid) ≡ true → IsWithdrawn (discarded p number guid) number guid
 
 -- What was reinstalled is there, opened by nobody.
 abbrev pub ReinstalledIsFresh : Type 0
@@ -31,6 +31,11 @@ ReinstalledIsFresh = (p : Protocols) (done : Done Installation) (number : ℕ) (
 abbrev pub InstalledIsPending : Type 0
 InstalledIsPending = (p : Protocols) (done : Done Installation) (number : Option ℕ) (guid : Guid) (interface : ℕ) → installation p number guid interface ≡ Ok done
     → All (λ (r : Registration). is_for guid r ≡ true → list_any (λ h. h == done.answer.handle) r.pending ≡ true) done.after.registrations
+
+-- So it is with the handle of pairs that were installed, for each registration of their GUIDs.
+abbrev pub AllInstalledArePending : Type 0
+AllInstalledArePending = (p : Protocols) (done : Done InstallationOfAll) (number : Option ℕ) (pairs : List (Guid × ℕ)) (handle : ℕ) → installation_of_all p number pairs ≡ Ok done → done.answer.handle ≡ Some handle
+    → All (λ (r : Registration). is_for_any pairs r ≡ true → list_any (λ h. h == handle) r.pending ≡ true) done.after.registrations
 
 -- At most one entry is by a driver or exclusive.
 abbrev pub IsOneAlone : List OpenEntry → Type 0
@@ -44,8 +49,10 @@ AreAlone d = All (λ (h : Handle). All (λ (q : Protocol). IsOneAlone q.opens) h
 pub record OneAloneStays : Type 0 where
   pub first : AreAlone (record { live = []; made = 0 })
   pub install : (p : Protocols) (done : Done Installation) (number : Option ℕ) (guid : Guid) (interface : ℕ) → AreAlone p.handles → installation p number guid interface ≡ Ok done → AreAlone done.after.handles
+  pub install_all : (p : Protocols) (done : Done InstallationOfAll) (number : Option ℕ) (pairs : List (Guid × ℕ)) → AreAlone p.handles → installation_of_all p number pairs ≡ Ok done → AreAlone done.after.handles
+  pub uninstall_all : (p new : Protocols) (number : ℕ) (pairs : List (Guid × ℕ)) → AreAlone p.handles → uninstallation_of_all p number pairs ≡ Ok new → AreAlone new.handles
   pub reinstall : (p : Protocols) (done : Done Installation) (number : ℕ) (guid : Guid) (old new : ℕ) → AreAlone p.handles → reinstallation p number guid old new ≡ Ok done → AreAlone done.after.handles
   pub uninstall : (p new : Protocols) (number : ℕ) (guid : Guid) (interface : ℕ) → AreAlone p.handles → uninstallation p number guid interface ≡ Ok new → AreAlone new.handles
   pub opens : (p : Protocols) (done : Done ℕ) (r : OpenRequest) → AreAlone p.handles → protocol_opening p r ≡ Ok done → AreAlone done.after.handles
   pub close : (p new : Protocols) (number : ℕ) (guid : Guid) (agent controller : ℕ) → AreAlone p.handles → closing p number guid agent controller ≡ Ok new → AreAlone new.handles
-  pub discard : (p : Protocols) (number : ℕ) (guid : Guid) → AreAlone p.handles → AreAlone (dropped p number guid).handles
+  pub discard : (p : Protocols) (number : ℕ) (guid : Guid) → AreAlone p.handles → AreAlone (discarded p number guid).handles

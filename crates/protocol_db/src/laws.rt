@@ -2,7 +2,7 @@
 //! a handle is pending at most once for a registration, `Protocols::whole` says of every state.
 #![tactic(auto)]
 
-ghost use Rattle.protocol_db.specs.Laws.{UninstalledIsWithdrawn, DroppedIsWithdrawn, ReinstalledIsFresh, InstalledIsPending, OneAloneStays};
+ghost use Rattle.protocol_db.specs.Laws.{UninstalledIsWithdrawn, DiscardedIsWithdrawn, ReinstalledIsFresh, InstalledIsPending, AllInstalledArePending, OneAloneStays};
 
 use handle_db::{discarded_is_gone, removed_is_gone, replaced_is_fresh};
 
@@ -14,8 +14,8 @@ pub fn uninstalled_is_withdrawn()
 }
 
 /// So is one that was discarded.
-pub fn dropped_is_withdrawn()
-    ensures { DroppedIsWithdrawn }
+pub fn discarded_is_withdrawn()
+    ensures { DiscardedIsWithdrawn }
 {
     discarded_is_gone();
 }
@@ -30,6 +30,11 @@ pub fn reinstalled_is_fresh()
 /// The handle on which a protocol was installed is pending for each registration of it.
 pub fn installed_is_pending()
     ensures { InstalledIsPending }
+{}
+
+/// The handle on which pairs were installed is pending for each registration of their protocols.
+pub fn all_installed_are_pending()
+    ensures { AllInstalledArePending }
 {}
 
 /// At most one entry of a protocol is by a driver or exclusive: at first, and after each call.

@@ -1,9 +1,10 @@
-//! Protocols on handles: who may open what, and who is told of what.
+//! Protocols on handles: who may open what, and who is notified of what.
 #![tactic(auto)]
 
 mod installed;
 mod laws;
 mod opening;
+mod pairs;
 mod protocols;
 mod refusal;
 mod registration;
@@ -12,10 +13,10 @@ mod request;
 mod tests;
 
 pub use handle_db::OpenEntry;
-pub use installed::Installed;
+pub use installed::{AllInstalled, Installed};
 pub use laws::{
-    dropped_is_withdrawn, installed_is_pending, one_alone_stays, reinstalled_is_fresh,
-    uninstalled_is_withdrawn,
+    all_installed_are_pending, discarded_is_withdrawn, installed_is_pending, one_alone_stays,
+    reinstalled_is_fresh, uninstalled_is_withdrawn,
 };
 pub use protocols::Protocols;
 pub use refusal::ProtocolRefusal;

@@ -1,20 +1,21 @@
 //! Protocols on handles.
 #![tactic(auto)]
 
-ghost use Rattle.std.specs.Prelude.{◌≡◌, ◌&&◌, [], Ok, IfOk, IfErr, MatchOption, position};
+ghost use Rattle.std.specs.Prelude.{◌≡◌, ◌<◌, ◌&&◌, [], Some, Ok, IfOk, IfErr, length, position};
 ghost use Rattle.std.specs.List.{find, list_any};
 ghost use Rattle.std.specs.Option.{option_copied};
-ghost use Rattle.handle_db.specs.Calls.{has_interface_in};
+ghost use Rattle.handle_db.specs.Calls.{has_interface_in, first_with};
 ghost use Rattle.handle_db.specs.Database.{opens_in};
-ghost use Rattle.protocol_db.specs.Registrations.{events_for, all_told, none_told, is_for, is_numbered, first_pending, first_taken};
+ghost use Rattle.protocol_db.specs.Registrations.{events_for, events_for_all, is_numbered, first_pending, first_taken};
 ghost use Rattle.protocol_db.specs.Opening.{is_askable, opening, is_held};
-ghost use Rattle.protocol_db.specs.Calls.{target_in, may_close, has_between, installation, uninstallation, reinstallation, protocol_opening, closing, information, registration, forgotten, dropped, Gives, ChangeGives, Refuses};
+ghost use Rattle.protocol_db.specs.Calls.{target_in, may_close, has_between, installation, uninstallation, reinstallation, protocol_opening, installation_of_all, refusal_after, first_refusal, all_discarded, uninstallation_of_all, closing, information, registration, forgotten, discarded, Gives, ChangeGives, Refuses};
 ghost use Rattle.protocol_db.specs.Whole.{IsWhole};
 
-use crate::installed::Installed;
+use crate::installed::{AllInstalled, Installed};
 use crate::opening::{any_between, any_holding, asks_agent, asks_controller, is_attribute, judged};
+use crate::pairs::is_before;
 use crate::refusal::{ProtocolRefusal, refused};
-use crate::registration::{LiveRegistration, all_told, put_told, untell_all};
+use crate::registration::{LiveRegistration, put_pending, silence_all, with_pending};
 use crate::request::OpenRequest;
 use handle_db::{Handles, OpenEntry};
 use std::alloc::{AllocError, Global};
@@ -81,30 +82,24 @@ impl Protocols {
         ensures { IfOk result (λ events. events.items ≡ events_for self.now.registrations guid.now) }
     {
         let mut events = Vec::new(*self.registrations.allocator());
-        for entry in &self.registrations {
-            if entry.is_for(guid) {
-                events.push(entry.event())?;
+        for registration in &self.registrations {
+            if registration.is_for(guid) {
+                events.push(registration.event())?;
             }
         }
         Ok(events)
     }
 
-    /// The registrations once those of a protocol are told of an interface on a handle. None where none is for it, and
-    /// they stay as they are.
-    fn told(&self, guid: &Guid, handle: u64) -> Result<Option<Vec<LiveRegistration>>, AllocError>
-        ensures { IfOk result (λ told. MatchOption told (all_told self.now.registrations guid.now handle ≡ self.now.registrations) (λ entries. entries.items ≡ all_told self.now.registrations guid.now handle)) }
+    /// The events that are registered for the protocols of pairs, pair by pair.
+    #[tactic(auto, unfolding(crate::specs::Registrations::events_for_all))]
+    fn events_of_all(&self, pairs: &[(Guid, u64)]) -> Result<Vec<u64>, AllocError>
+        ensures { IfOk result (λ events. events.items ≡ events_for_all self.now.registrations pairs.now) }
     {
-        if !self.is_registered(guid) {
-            return Ok(None);
+        let mut events = Vec::new(*self.registrations.allocator());
+        for pair in pairs {
+            events.extend_from_slice(self.events(&pair.0)?.as_slice())?;
         }
-        Ok(Some(all_told(&self.registrations, guid, handle)?))
-    }
-
-    /// Whether a registration is for a protocol.
-    fn is_registered(&self, guid: &Guid) -> bool
-        ensures { result ≡ list_any (is_for guid.now) self.now.registrations }
-    {
-        self.registrations.iter().any(|entry| entry.is_for(guid))
+        Ok(events)
     }
 
     /// The handle on which an install will be. None exactly where it is `Full`.
@@ -135,14 +130,60 @@ impl Protocols {
             return Err(ProtocolRefusal::Full);
         };
         let events = self.events(&guid)?;
-        let told = self.told(&guid, target)?;
+        let pairs = [(guid, interface)];
+        let changed = with_pending(&self.registrations, &pairs, target)?;
         match self.handles.install(handle, guid, interface) {
             Ok(handle) => {
                 self.handles.whole();
-                put_told(&mut self.registrations, told);
+                put_pending(&mut self.registrations, &pairs, target, changed);
                 Ok(Installed { handle, events })
             }
             Err(refusal) => Err(refused(refusal)),
+        }
+    }
+
+    /// Installs pairs, at least one, on a handle that is known.
+    #[tactic(auto, unfolding(crate::specs::Calls::installation_of_all))]
+    fn install_pairs(
+        &mut self,
+        target: u64,
+        handle: Option<u64>,
+        pairs: &[(Guid, u64)],
+    ) -> Result<AllInstalled, ProtocolRefusal>
+        requires some { 0 < length pairs.now }
+        requires target { target_in self.old.handles handle ≡ Some target }
+        ensures { Gives result (installation_of_all self.old handle pairs.now) self.old self.new }
+    {
+        let events = self.events_of_all(pairs)?;
+        let changed = with_pending(&self.registrations, pairs, target)?;
+        match self.handles.install_all(handle, pairs) {
+            Ok(handle) => {
+                self.handles.whole();
+                put_pending(&mut self.registrations, pairs, target, changed);
+                Ok(AllInstalled { handle, events })
+            }
+            Err(refusal) => Err(refused(refusal)),
+        }
+    }
+
+    /// Installs protocol interfaces, pairs of a GUID and an interface, as `install` does, all on one handle or on one
+    /// new handle, or none of them (InstallMultipleProtocolInterfaces of UEFI 2.10, section 7.3). The events come pair
+    /// by pair. Without a pair nothing changes, and the handle is the one that was given, whatever it is. The refusal is
+    /// that of the first pair that is refused after those before it. After an Err nothing has changed.
+    pub fn install_all(
+        &mut self,
+        handle: Option<u64>,
+        pairs: &[(Guid, u64)],
+    ) -> Result<AllInstalled, ProtocolRefusal>
+        ensures { Gives result (installation_of_all self.old handle pairs.now) self.old self.new }
+    {
+        if pairs.is_empty() {
+            let events = Vec::new(*self.registrations.allocator());
+            return Ok(AllInstalled { handle, events });
+        }
+        match self.target(handle) {
+            None => Err(ProtocolRefusal::Full),
+            Some(target) => self.install_pairs(target, handle, pairs),
         }
     }
 
@@ -183,11 +224,85 @@ impl Protocols {
         match self.handles.remove(handle, guid, interface) {
             Ok(()) => {
                 self.handles.whole();
-                untell_all(&mut self.registrations, guid, handle);
+                silence_all(&mut self.registrations, guid, handle);
                 Ok(())
             }
             Err(refusal) => Err(refused(refusal)),
         }
+    }
+
+    /// Why a pair can't be taken from a handle after others. None where it can.
+    #[tactic(auto, unfolding(crate::specs::Calls::refusal_after))]
+    fn refusal_after(
+        &self,
+        handle: u64,
+        before: &[(Guid, u64)],
+        pair: &(Guid, u64),
+    ) -> Option<ProtocolRefusal>
+        ensures { result ≡ refusal_after self.now.handles handle before.now pair.now }
+    {
+        if !self.handles.stays_live(handle, before) {
+            return Some(ProtocolRefusal::Invalid);
+        }
+        if !self.handles.has_interface(handle, &pair.0, pair.1) || is_before(before, &pair.0) {
+            return Some(ProtocolRefusal::NotFound);
+        }
+        if self.is_held(handle, &pair.0) {
+            return Some(ProtocolRefusal::AccessDenied);
+        }
+        None
+    }
+
+    /// The refusal of the first pair that can't be taken from a handle after those before it.
+    fn first_refusal(&self, handle: u64, pairs: &[(Guid, u64)]) -> Option<ProtocolRefusal>
+        ensures { result ≡ first_refusal self.now.handles handle [] pairs.now }
+    {
+        for place in 0..pairs.len() {
+            let refusal = self.refusal_after(handle, &pairs[..place], &pairs[place]);
+            if refusal.is_some() {
+                return refusal;
+            }
+        }
+        None
+    }
+
+    /// Takes the protocols of pairs away whatever their interfaces and whoever opened them.
+    fn discard_all(&mut self, handle: u64, pairs: &[(Guid, u64)])
+        ensures { self.new ≡ all_discarded self.old handle pairs.now }
+    {
+        for pair in pairs {
+            self.discard(handle, &pair.0);
+        }
+    }
+
+    /// Takes protocol interfaces, pairs of a GUID and an interface, away as `uninstall` does, all of them or none
+    /// (UninstallMultipleProtocolInterfaces of UEFI 2.10, section 7.3). Without a pair nothing changes, whatever the
+    /// handle is. The refusal is that of the first pair that is refused after those before it: `Invalid` where the handle
+    /// is unknown or has gone with the last of its protocols, then `NotFound`, then `AccessDenied`. It takes no memory.
+    /// After an Err nothing has changed.
+    #[tactic(auto, unfolding(crate::specs::Calls::uninstallation_of_all))]
+    pub fn uninstall_all(
+        &mut self,
+        handle: u64,
+        pairs: &[(Guid, u64)],
+    ) -> Result<(), ProtocolRefusal>
+        ensures { ChangeGives result (uninstallation_of_all self.old handle pairs.now) self.old self.new }
+    {
+        match self.first_refusal(handle, pairs) {
+            Some(refusal) => Err(refusal),
+            None => {
+                self.discard_all(handle, pairs);
+                Ok(())
+            }
+        }
+    }
+
+    /// The first live handle, in order of making, that has a protocol (LocateProtocol of UEFI 2.10, section 7.3). None
+    /// where none has it. It takes no memory.
+    pub fn first_of(&self, guid: &Guid) -> Option<u64>
+        ensures { result ≡ first_with self.now.handles guid.now }
+    {
+        self.handles.first_of(guid)
     }
 
     /// Gives a protocol interface to an agent and keeps a record of it (OpenProtocol of UEFI 2.10, section 7.3). The
@@ -309,7 +424,7 @@ impl Protocols {
     {
         match self.find(registration) {
             None => None,
-            Some(entry) => entry.first(),
+            Some(registration) => registration.first(),
         }
     }
 
@@ -343,12 +458,13 @@ impl Protocols {
         }
     }
 
-    /// An event that is closed is told of nothing any more.
+    /// An event that is closed is notified of nothing any more.
     #[tactic(auto, unfolding(crate::specs::Calls::forgotten))]
     pub fn forget(&mut self, event: u64)
         ensures { self.new ≡ forgotten self.old event }
     {
-        self.registrations.retain(|entry| entry.event() != event);
+        self.registrations
+            .retain(|registration| registration.event() != event);
     }
 
     /// Installs an interface in another's place (ReinstallProtocolInterface of UEFI 2.10, section 7.3): the old one and
@@ -368,11 +484,12 @@ impl Protocols {
             return Err(ProtocolRefusal::AccessDenied);
         }
         let events = self.events(guid)?;
-        let told = self.told(guid, handle)?;
+        let pairs = [(*guid, new)];
+        let changed = with_pending(&self.registrations, &pairs, handle)?;
         match self.handles.replace(handle, guid, old, new) {
             Ok(()) => {
                 self.handles.whole();
-                put_told(&mut self.registrations, told);
+                put_pending(&mut self.registrations, &pairs, handle, changed);
                 Ok(Installed { handle, events })
             }
             Err(refusal) => Err(refused(refusal)),
@@ -381,14 +498,14 @@ impl Protocols {
 
     /// Takes a protocol away whatever its interface and whoever opened it. Its handle is then pending for no
     /// registration of the protocol. Nothing changes where the handle hasn't it.
-    #[tactic(auto, unfolding(crate::specs::Calls::dropped))]
+    #[tactic(auto, unfolding(crate::specs::Calls::discarded))]
     pub fn discard(&mut self, handle: u64, guid: &Guid)
-        ensures { self.new ≡ dropped self.old handle guid.now }
+        ensures { self.new ≡ discarded self.old handle guid.now }
     {
         if self.handles.find_protocol(handle, guid).is_some() {
             self.handles.discard(handle, guid);
             self.handles.whole();
-            untell_all(&mut self.registrations, guid, handle);
+            silence_all(&mut self.registrations, guid, handle);
         }
     }
 
@@ -400,8 +517,8 @@ impl Protocols {
             *self.registrations.allocator(),
             self.registrations.len(),
         )?;
-        for entry in &self.registrations {
-            registrations.push(entry.copy()?)?;
+        for registration in &self.registrations {
+            registrations.push(registration.copy()?)?;
         }
         Ok(Protocols {
             handles: self.handles.copy()?,

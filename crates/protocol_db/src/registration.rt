@@ -1,15 +1,16 @@
 //! One registration.
 #![tactic(auto)]
 
-ghost use Rattle.std.specs.Prelude.{◌≡◌, ◌==◌, [], IfOk, MatchOption, drop, slice_get};
-ghost use Rattle.std.specs.List.{list_any};
-ghost use Rattle.protocol_db.specs.Registrations.{Registration, is_for, told, untold, all_told, none_told};
+ghost use Rattle.std.specs.Prelude.{◌≡◌, ◌==◌, [], IfOk, map, drop, slice_get};
+ghost use Rattle.std.specs.List.{filter, list_any};
+ghost use Rattle.protocol_db.specs.Registrations.{Registration, is_for, is_for_any, lacks, with_last, silenced, all_notified, all_silenced};
 
 use std::alloc::{AllocError, Global};
+use std::collections::VecDeque;
 use std::marker::Model;
 use uh_base::{Guid, Numbered};
 
-/// An event that is told of new interfaces of a protocol.
+/// An event that is notified of new interfaces of a protocol.
 #[derive(Drop)]
 pub struct LiveRegistration {
     number: u64,
@@ -61,6 +62,13 @@ impl LiveRegistration {
         self.guid.is_same(guid)
     }
 
+    /// Whether it is for the protocol of one of the pairs.
+    pub fn is_for_any(&self, pairs: &[(Guid, u64)]) -> bool
+        ensures { result ≡ is_for_any pairs.now self.now }
+    {
+        pairs.iter().any(|pair| self.is_for(&pair.0))
+    }
+
     /// Whether a handle is pending.
     fn is_pending(&self, handle: u64) -> bool
         ensures { result ≡ list_any (λ h. h == handle) self.now.pending }
@@ -70,7 +78,7 @@ impl LiveRegistration {
 
     /// An equal registration.
     pub fn copy(&self) -> Result<LiveRegistration, AllocError>
-        ensures { IfOk result (λ entry. entry ≡ self.now) }
+        ensures { IfOk result (λ registration. registration ≡ self.now) }
     {
         Ok(LiveRegistration {
             number: self.number,
@@ -80,20 +88,25 @@ impl LiveRegistration {
         })
     }
 
-    /// The registration that was told of an interface of a protocol on a handle.
-    pub fn told(&self, guid: &Guid, handle: u64) -> Result<LiveRegistration, AllocError>
-        ensures { IfOk result (λ entry. entry ≡ told guid.now handle self.now) }
+    /// Whether it is for the protocol of one of the pairs and a handle isn't pending yet.
+    pub fn lacks(&self, pairs: &[(Guid, u64)], handle: u64) -> bool
+        ensures { result ≡ lacks pairs.now handle self.now }
     {
-        let mut entry = self.copy()?;
-        if self.is_for(guid) && !self.is_pending(handle) {
-            entry.pending.push(handle)?;
-        }
-        Ok(entry)
+        self.is_for_any(pairs) && !self.is_pending(handle)
+    }
+
+    /// The registration with a handle pending last.
+    pub fn with_last(&self, handle: u64) -> Result<LiveRegistration, AllocError>
+        ensures { IfOk result (λ registration. registration ≡ with_last handle self.now) }
+    {
+        let mut registration = self.copy()?;
+        registration.pending.push(handle)?;
+        Ok(registration)
     }
 
     /// A handle whose interface of a protocol is gone is pending no more.
-    pub fn untell(&mut self, guid: &Guid, handle: u64)
-        ensures { self.new ≡ untold guid.now handle self.old }
+    pub fn silence(&mut self, guid: &Guid, handle: u64)
+        ensures { self.new ≡ silenced guid.now handle self.old }
     {
         if self.is_for(guid) {
             self.pending.retain(|pending| *pending != handle);
@@ -120,37 +133,50 @@ impl LiveRegistration {
     }
 }
 
-/// The registrations once those of a protocol are told of an interface on a handle.
-#[tactic(auto, unfolding(crate::specs::Registrations::all_told))]
-pub fn all_told(
-    entries: &Vec<LiveRegistration>,
-    guid: &Guid,
+/// The registrations for the protocols of pairs for which a handle isn't pending yet, each with it pending last. No other
+/// is copied.
+pub fn with_pending(
+    registrations: &Vec<LiveRegistration>,
+    pairs: &[(Guid, u64)],
     handle: u64,
-) -> Result<Vec<LiveRegistration>, AllocError>
-    ensures { IfOk result (λ told. told.items ≡ all_told entries.now.items guid.now handle) }
+) -> Result<VecDeque<LiveRegistration>, AllocError>
+    ensures { IfOk result (λ changed. changed.items ≡ map (with_last handle) (filter (lacks pairs.now handle) registrations.now.items)) }
 {
-    let mut told = Vec::with_capacity(*entries.allocator(), entries.len())?;
-    for entry in entries {
-        told.push(entry.told(guid, handle)?)?;
+    let mut changed = VecDeque::new(*registrations.allocator());
+    for registration in registrations {
+        if registration.lacks(pairs, handle) {
+            changed.push_back(registration.with_last(handle)?)?;
+        }
     }
-    Ok(told)
+    Ok(changed)
 }
 
-/// Puts registrations that were told in place of those before, where there are any.
-pub fn put_told(entries: &mut Vec<LiveRegistration>, told: Option<Vec<LiveRegistration>>)
-    ensures { MatchOption told (entries.new.items ≡ entries.old.items) (λ told. entries.new.items ≡ told.items) }
+/// Puts such registrations in the place of those that stood there.
+#[tactic(auto, unfolding(crate::specs::Registrations::all_notified))]
+pub fn put_pending(
+    registrations: &mut Vec<LiveRegistration>,
+    pairs: &[(Guid, u64)],
+    handle: u64,
+    mut changed: VecDeque<LiveRegistration>,
+)
+    requires { changed.items ≡ map (with_last handle) (filter (lacks pairs.now handle) registrations.old.items) }
+    ensures { registrations.new.items ≡ all_notified registrations.old.items (is_for_any pairs.now) handle }
 {
-    if let Some(told) = told {
-        *entries = told;
+    for registration in registrations.iter_mut() {
+        if registration.lacks(pairs, handle) {
+            if let Some(next) = changed.pop_front() {
+                *registration = next;
+            }
+        }
     }
 }
 
 /// A handle whose interface of a protocol is gone is pending no more, for any registration of it.
-#[tactic(auto, unfolding(crate::specs::Registrations::none_told))]
-pub fn untell_all(entries: &mut Vec<LiveRegistration>, guid: &Guid, handle: u64)
-    ensures { entries.new.items ≡ none_told entries.old.items guid.now handle }
+#[tactic(auto, unfolding(crate::specs::Registrations::all_silenced))]
+pub fn silence_all(registrations: &mut Vec<LiveRegistration>, guid: &Guid, handle: u64)
+    ensures { registrations.new.items ≡ all_silenced registrations.old.items guid.now handle }
 {
-    for entry in entries.iter_mut() {
-        entry.untell(guid, handle);
+    for registration in registrations.iter_mut() {
+        registration.silence(guid, handle);
     }
 }

@@ -158,8 +158,8 @@ fn entries_are_counted_and_closed_together(rt: HostRuntime) -> Result<(), Fail> 
         );
     }
     let entries = [(32, 2, 2), (32, 1, 1), (48, 2, 1)];
-    let told = protocols.information(16, &guid(1))?;
-    for (entry, (agent, attributes, count)) in told.iter().zip(entries.iter()) {
+    let given = protocols.information(16, &guid(1))?;
+    for (entry, (agent, attributes, count)) in given.iter().zip(entries.iter()) {
         let wanted = OpenEntry {
             agent: *agent,
             controller: 16,
@@ -168,7 +168,7 @@ fn entries_are_counted_and_closed_together(rt: HostRuntime) -> Result<(), Fail> 
         };
         assert_eq!(rt; *entry, wanted);
     }
-    assert_eq!(rt; told.len(), 3);
+    assert_eq!(rt; given.len(), 3);
     let rows = [
         (17, 1, 32, 16, Err(ProtocolRefusal::Invalid)),
         (16, 1, 33, 16, Err(ProtocolRefusal::Invalid)),
@@ -213,6 +213,53 @@ fn pending_once_and_in_order(rt: HostRuntime) -> Result<(), Fail> {
     protocols.forget(40);
     assert_eq!(rt; protocols.first_notified(36), None);
     assert!(rt; protocols.registered(20) && !protocols.registered(36));
+    Ok(())
+}
+
+#[test]
+fn pairs_are_installed_and_taken_together(rt: HostRuntime) -> Result<(), Fail> {
+    let mut protocols = three_handles(&rt)?;
+    assert_eq!(rt; protocols.register(guid(3), 24), Ok(20));
+    // GUID 1 is there, in the middle of the list.
+    let four = [(guid(2), 5), (guid(3), 6), (guid(1), 7), (guid(4), 8)];
+    assert_eq!(rt;
+        protocols
+            .install_all(Some(16), &four)
+            .is_err_and(|e| e == ProtocolRefusal::Invalid),
+        true
+    );
+    assert_eq!(rt; protocols.handles().guids_of(16)?.len(), 1);
+    assert_eq!(rt; protocols.first_of(&guid(2)), None);
+    assert_eq!(rt; protocols.first_notified(20), None);
+    let installed = protocols.install_all(Some(32), &[(guid(2), 5), (guid(3), 6)])?;
+    assert_eq!(rt; installed.handle, Some(32));
+    assert!(rt; installed.events.as_slice() == [24].as_slice());
+    assert_eq!(rt; protocols.install_all(None, &four)?.handle, Some(64));
+    assert_eq!(rt; protocols.install_all(None, &[])?.handle, None);
+    assert_eq!(rt; protocols.first_of(&guid(3)), Some(32));
+    assert_eq!(rt; protocols.first_notified(20), Some(32));
+    // The handle goes with its last protocol, so that a pair behind it finds no handle.
+    let gone = [(guid(3), 6), (guid(1), 8), (guid(2), 5), (guid(2), 5)];
+    let refused = Err(ProtocolRefusal::Invalid);
+    assert_eq!(rt; protocols.uninstall_all(32, &gone), refused);
+    let missing = Err(ProtocolRefusal::NotFound);
+    assert_eq!(rt;
+        protocols.uninstall_all(32, &[(guid(2), 5), (guid(2), 5)]),
+        missing
+    );
+    assert_eq!(rt;
+        protocols.uninstall_all(32, &[(guid(2), 5), (guid(3), 5)]),
+        missing
+    );
+    assert_eq!(rt; protocols.first_of(&guid(2)), Some(32));
+    assert_eq!(rt;
+        protocols.uninstall_all(32, &[(guid(3), 6), (guid(2), 5)]),
+        Ok(())
+    );
+    assert_eq!(rt; protocols.first_of(&guid(2)), Some(64));
+    assert_eq!(rt; protocols.first_notified(20), Some(64));
+    assert_eq!(rt; protocols.uninstall_all(17, &[]), Ok(()));
+    assert_eq!(rt; protocols.uninstall_all(17, &[(guid(1), 8)]), refused);
     Ok(())
 }
 
