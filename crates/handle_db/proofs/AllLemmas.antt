@@ -1,7 +1,7 @@
 -- What an install of many pairs comes to.
 use Rattle.std.proofs.Common.{◌≡◌, ◌∙◌, ℕ, ◌+◌, ◌*◌, ◌-◌, ◌<◌, ◌≤◌, ◌^◌, List, [], ◌∷◌, ◌++◌, length, get_or, set, drop, refl, sym, ap, subst, arith, Bool, true, false}
-use Rattle.std.specs.Prelude.{map, slice_get, nat_le, Option, Some, None, Result, Ok, Err, if◌then◌else◌, ◌==◌, ◌||◌}
-use Rattle.std.specs.List.{find, filter, fold, position, list_any, All}
+use Rattle.std.specs.Prelude.{map, slice_get, nat_le, Some, None, Result, Ok, Err, if◌then◌else◌, ◌==◌, ◌||◌}
+use Rattle.std.specs.List.{find, filter, fold, position, list_any}
 use Rattle.std.specs.Option.{option_map}
 use Rattle.std.proofs.lemmas.Bool.Decides.{nat_tests}
 use Rattle.std.proofs.lemmas.Bool.{ne_eqb}
@@ -11,7 +11,7 @@ use Rattle.uh_base.specs.declared.guid.Guid.{Guid}
 use Rattle.handle_db.specs.declared.refusal.HandleRefusal.{HandleRefusal}
 use Rattle.handle_db.specs.declared.refusal.HandleRefusal.TheVariants.{Invalid, NotFound, Full, Memory}
 use Rattle.handle_db.specs.Database.{Protocol, Handle, Database, has_number, has_guid, handle_in, at_first, with_protocols, fresh, supports}
-use Rattle.handle_db.specs.Calls.{Done, AllDone, is_full, with_handle, one_more, installed_next, installed_on, installation, installation_of_all, added, AllGives, AddGives, handles_with, first_with}
+use Rattle.handle_db.specs.Calls.{AllDone, is_full, with_handle, one_more, installed_next, installation, installation_of_all, added, AllGives, AddGives, handles_with, first_with}
 use Rattle.handle_db.specs.Whole.{IsHandle, IsDatabase}
 use Rattle.handle_db.proofs.ListLemmas.{change_found}
 use Rattle.handle_db.proofs.LawLemmas.{last_found, protocols_found}

@@ -1,5 +1,5 @@
 -- What the definitions come to.
-use Rattle.std.proofs.Common.{◌≡◌, ℕ, ◌+◌, ◌*◌, ◌<◌, List, [], ◌∷◌, ◌++◌, refl, ap, subst, arith, Bool, true, false}
+use Rattle.std.proofs.Common.{◌≡◌, ℕ, ◌+◌, ◌*◌, ◌<◌, List, [], ◌∷◌, ◌++◌, ◌∙◌, length, refl, sym, ap, subst, arith, Bool, true, false}
 use Rattle.std.specs.Prelude.{Option, Some, None, Ok, Err, if◌then◌else◌, not, ◌&&◌, ◌||◌, ◌==◌}
 use Rattle.std.specs.List.{find, filter, list_any, All}
 use Rattle.uh_base.specs.declared.guid.Guid.{Guid}
@@ -8,7 +8,7 @@ use Rattle.handle_db.specs.Database.{Protocol, Handle, Database, same_guid, has_
 use Rattle.handle_db.specs.Calls.{Done, is_full, with_handle, has_interface, installation, removal, removed_from, replacement, replaced_on, discarded, discarded_on}
 use Rattle.handle_db.specs.declared.refusal.HandleRefusal.TheVariants.{NotFound, Full}
 use Rattle.handle_db.specs.Whole.{IsDatabase}
-use Rattle.handle_db.specs.Laws.{SameIsEqual, NewIsNew, RemovedIsGone, ReplacedIsFresh, DiscardedIsGone}
+use Rattle.handle_db.specs.Laws.{SameIsEqual, NewIsNew, RemovedIsGone, ReplacedIsFresh, DiscardedIsGone, living, left_of, DiscardLeavesOthers}
 use Rattle.handle_db.proofs.ListLemmas.{none_left, find_none}
 
 both : (a b : Bool) → (a && b) ≡ true → (a ≡ true) × (b ≡ true)
@@ -117,3 +117,36 @@ discarded_by d n guid (Some handle) e = by (list_any (has_guid guid) handle.prot
 pub discarded_is_gone : DiscardedIsGone
 unfolding discarded
 discarded_is_gone d n guid = discarded_by d n guid (handle_in d n) refl
+
+-- what a discard leaves
+none_taken : {X : Type 0} (test : X → Bool) (xs : List X) → list_any test xs ≡ false → filter (λ x. not (test x)) xs ≡ xs
+none_taken test [] e = refl
+none_taken test (x ∷ xs) e = by (test x) e (none_taken test xs)
+  where
+    by : (b : Bool) → (b || list_any test xs) ≡ false → (list_any test xs ≡ false → filter (λ y. not (test y)) xs ≡ xs) → (if not b then x ∷ filter (λ y. not (test y)) xs else filter (λ y. not (test y)) xs) ≡ x ∷ xs
+    by true h more = absurd (cc)
+    by false h more = ap (λ ys. x ∷ ys) (more h)
+
+living_itself : (h : Handle) → 0 < length h.protocols → living h h.protocols ≡ Some h
+living_itself h l = by h.protocols refl l
+  where
+    by : (ps : List Protocol) → h.protocols ≡ ps → 0 < length ps → living h ps ≡ Some h
+    by [] e l = absurd (omega arith)
+    by (p ∷ ps) e l = ap (λ qs. Some (record h { protocols = qs })) (sym e)
+
+left_handle : (d : Database) (n : ℕ) (h : Handle) (ps : List Protocol) → handle_in d n ≡ Some h → handle_in (left_with d n ps) n ≡ living h ps
+unfolding handle_in
+left_handle d n h [] e = gone (has_number n) d.live
+left_handle d n h (p ∷ ps) e = protocols_found d n h (p ∷ ps) e
+
+discard_leaves_by : (d : Database) (n : ℕ) (guid : Guid) (o : Option Handle) → handle_in d n ≡ o → ((h : Handle) → o ≡ Some h → 0 < length h.protocols) → handle_in (discarded_on d n guid o) n ≡ left_of guid o
+discard_leaves_by d n guid None e some = e
+discard_leaves_by d n guid (Some h) e some = by (list_any (has_guid guid) h.protocols) refl
+  where
+    by : (b : Bool) → list_any (has_guid guid) h.protocols ≡ b → handle_in (if b then left_with d n (all_but guid h.protocols) else d) n ≡ living h (all_but guid h.protocols)
+    by true k = left_handle d n h (all_but guid h.protocols) e
+    by false k = e ∙ sym (ap (living h) (none_taken (has_guid guid) h.protocols k) ∙ living_itself h (some h refl))
+
+pub discard_leaves_others : DiscardLeavesOthers
+unfolding discarded
+discard_leaves_others d n guid some = discard_leaves_by d n guid (handle_in d n) refl some

@@ -1,8 +1,8 @@
 -- What the definitions come to.
-use Rattle.std.specs.Prelude.{ℕ, ◌≡◌, ◌<◌, ◌*◌, ◌+◌, true, Some, None, Ok}
+use Rattle.std.specs.Prelude.{ℕ, ◌≡◌, ◌<◌, ◌*◌, ◌+◌, true, List, [], ◌∷◌, length, Option, Some, None, Ok}
 use Rattle.std.specs.List.{All}
 use Rattle.uh_base.specs.declared.guid.Guid.{Guid}
-use Rattle.handle_db.specs.Database.{Handle, Database, same_guid, protocol_in, fresh}
+use Rattle.handle_db.specs.Database.{Protocol, Handle, Database, same_guid, handle_in, protocol_in, all_but, fresh}
 use Rattle.handle_db.specs.Calls.{Done, installation, removal, replacement, discarded}
 use Rattle.handle_db.specs.Whole.{IsDatabase}
 
@@ -26,3 +26,16 @@ ReplacedIsFresh = (d after : Database) (number : ℕ) (guid : Guid) (old new : �
 -- What was discarded is not there any more, with its opens.
 abbrev pub DiscardedIsGone : Type 0
 DiscardedIsGone = (d : Database) (number : ℕ) (guid : Guid) → protocol_in (discarded d number guid) number guid ≡ None
+
+-- a handle that has protocols, and none without
+abbrev pub living : Handle → List Protocol → Option Handle
+living handle [] = None
+living handle (protocol ∷ protocols) = Some (record handle { protocols = protocol ∷ protocols })
+
+abbrev pub left_of : Guid → Option Handle → Option Handle
+left_of guid None = None
+left_of guid (Some handle) = living handle (all_but guid handle.protocols)
+
+-- A discard leaves a live handle, which has protocols, those of other GUIDs, and it is gone with the last.
+abbrev pub DiscardLeavesOthers : Type 0
+DiscardLeavesOthers = (d : Database) (number : ℕ) (guid : Guid) → ((h : Handle) → handle_in d number ≡ Some h → 0 < length h.protocols) → handle_in (discarded d number guid) number ≡ left_of guid (handle_in d number)

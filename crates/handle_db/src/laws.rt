@@ -2,7 +2,7 @@
 //! protocols is gone, and that an entry names neither attribute 4 nor agent 0, `Handles::whole` says of every database.
 #![tactic(auto)]
 
-ghost use Rattle.handle_db.specs.Laws.{SameIsEqual, NewIsNew, RemovedIsGone, ReplacedIsFresh, DiscardedIsGone};
+ghost use Rattle.handle_db.specs.Laws.{SameIsEqual, NewIsNew, RemovedIsGone, ReplacedIsFresh, DiscardedIsGone, DiscardLeavesOthers};
 
 /// GUIDs that are the same field by field are equal.
 pub fn same_is_equal()
@@ -27,4 +27,9 @@ pub fn replaced_is_fresh()
 /// A protocol that was discarded is not there any more, and nor are its opens.
 pub fn discarded_is_gone()
     ensures { DiscardedIsGone }
+{}
+
+/// A discard leaves a handle its protocols of other GUIDs, and the handle is gone with the last.
+pub fn discard_leaves_others()
+    ensures { DiscardLeavesOthers }
 {}

@@ -12,6 +12,9 @@ mod tests;
 
 pub use entry::OpenEntry;
 pub use handles::Handles;
-pub use laws::{discarded_is_gone, new_is_new, removed_is_gone, replaced_is_fresh, same_is_equal};
+pub use laws::{
+    discard_leaves_others, discarded_is_gone, new_is_new, removed_is_gone, replaced_is_fresh,
+    same_is_equal,
+};
 pub use protocol::ProtocolInterface;
 pub use refusal::HandleRefusal;

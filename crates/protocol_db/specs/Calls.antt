@@ -153,7 +153,7 @@ all_discarded p number pairs = fold (λ q (pair : Guid × ℕ). discarded q numb
 
 -- A pair before has a GUID, which is gone with it.
 abbrev pub is_before : List (Guid × ℕ) → Guid → Bool
-is_before before guid = list_any (λ (pair : Guid × ℕ). same_guid pair.0 guid) before
+is_before before guid = list_any (λ (pair : Guid × ℕ). same_guid guid pair.0) before
 
 -- Why a pair isn't taken away after others. The handle is unknown, or has gone with the last of its protocols; or the
 -- interface isn't there, or has gone with a pair of its GUID; or an entry keeps it.

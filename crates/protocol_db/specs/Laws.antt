@@ -1,12 +1,14 @@
 -- What the definitions come to.
-use Rattle.std.specs.Prelude.{ℕ, ◌≡◌, ◌==◌, ◌&&◌, true, false, List, [], Option, Some, None, Ok}
-use Rattle.std.specs.List.{All, AllPairs, list_any}
+use Rattle.std.specs.Prelude.{ℕ, ◌≡◌, ◌==◌, ◌&&◌, true, false, List, [], Option, Some, None, Result, Ok, Err}
+use Rattle.std.specs.List.{All, AllPairs, fold, list_any}
 use Rattle.std.specs.Option.{is_some}
 use Rattle.uh_base.specs.declared.guid.Guid.{Guid}
 use Rattle.handle_db.specs.Database.{Protocol, Handle, Database, protocol_in, fresh}
 use Rattle.handle_db.specs.declared.entry.OpenEntry.{OpenEntry}
 use Rattle.protocol_db.specs.declared.request.OpenRequest.{OpenRequest}
+use Rattle.protocol_db.specs.declared.refusal.ProtocolRefusal.{ProtocolRefusal}
 use Rattle.protocol_db.specs.Opening.{is_alone}
+use Rattle.protocol_db.specs.Whole.{IsWhole}
 use Rattle.protocol_db.specs.Registrations.{Registration, Protocols, is_for, is_for_any}
 use Rattle.protocol_db.specs.Calls.{Done, Installation, InstallationOfAll, installation, installation_of_all, uninstallation, uninstallation_of_all, reinstallation, protocol_opening, closing, discarded}
 
@@ -22,6 +24,15 @@ UninstalledIsWithdrawn = (p new : Protocols) (number : ℕ) (guid : Guid) (inter
 -- So is what was discarded.
 abbrev pub DiscardedIsWithdrawn : Type 0
 DiscardedIsWithdrawn = (p : Protocols) (number : ℕ) (guid : Guid) → is_some (protocol_in p.handles number guid) ≡ true → IsWithdrawn (discarded p number guid) number guid
+
+-- a pair that is taken away after others
+abbrev pub uninstalled_next : ℕ → Result Protocols ProtocolRefusal → Guid × ℕ → Result Protocols ProtocolRefusal
+uninstalled_next number (Ok p) pair = uninstallation p number pair.0 pair.1
+uninstalled_next number (Err refusal) pair = Err refusal
+
+-- Pairs that are taken away together go as they go one after another, up to the first that is refused.
+abbrev pub AllUninstalledInOrder : Type 0
+AllUninstalledInOrder = (p : Protocols) (number : ℕ) (pairs : List (Guid × ℕ)) → IsWhole p → uninstallation_of_all p number pairs ≡ fold (uninstalled_next number) (Ok p) pairs
 
 -- What was reinstalled is there, opened by nobody.
 abbrev pub ReinstalledIsFresh : Type 0

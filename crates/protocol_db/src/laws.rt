@@ -2,9 +2,11 @@
 //! a handle is pending at most once for a registration, `Protocols::whole` says of every state.
 #![tactic(auto)]
 
-ghost use Rattle.protocol_db.specs.Laws.{UninstalledIsWithdrawn, DiscardedIsWithdrawn, ReinstalledIsFresh, InstalledIsPending, AllInstalledArePending, OneAloneStays};
+ghost use Rattle.protocol_db.specs.Laws.{UninstalledIsWithdrawn, DiscardedIsWithdrawn, ReinstalledIsFresh, InstalledIsPending, AllInstalledArePending, AllUninstalledInOrder, OneAloneStays};
 
-use handle_db::{discarded_is_gone, removed_is_gone, replaced_is_fresh};
+use handle_db::{
+    discard_leaves_others, discarded_is_gone, removed_is_gone, replaced_is_fresh, same_is_equal,
+};
 
 /// A protocol that was uninstalled is gone with its opens, and its handle is pending for no registration of it.
 pub fn uninstalled_is_withdrawn()
@@ -18,6 +20,14 @@ pub fn discarded_is_withdrawn()
     ensures { DiscardedIsWithdrawn }
 {
     discarded_is_gone();
+}
+
+/// Pairs that are taken away together go as they go one after another, up to the first that is refused.
+pub fn all_uninstalled_in_order()
+    ensures { AllUninstalledInOrder }
+{
+    same_is_equal();
+    discard_leaves_others();
 }
 
 /// A protocol that was reinstalled is there, and nobody has opened it.

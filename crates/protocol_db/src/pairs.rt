@@ -10,5 +10,5 @@ use uh_base::Guid;
 pub fn is_before(before: &[(Guid, u64)], guid: &Guid) -> bool
     ensures { result ≡ is_before before.now guid.now }
 {
-    before.iter().any(|pair| pair.0.is_same(guid))
+    before.iter().any(|pair| guid.is_same(&pair.0))
 }

@@ -217,49 +217,48 @@ fn pending_once_and_in_order(rt: HostRuntime) -> Result<(), Fail> {
 }
 
 #[test]
-fn pairs_are_installed_and_taken_together(rt: HostRuntime) -> Result<(), Fail> {
+fn pairs_are_installed_together(rt: HostRuntime) -> Result<(), Fail> {
     let mut protocols = three_handles(&rt)?;
     assert_eq!(rt; protocols.register(guid(3), 24), Ok(20));
     // GUID 1 is there, in the middle of the list.
     let four = [(guid(2), 5), (guid(3), 6), (guid(1), 7), (guid(4), 8)];
-    assert_eq!(rt;
+    assert!(rt;
         protocols
             .install_all(Some(16), &four)
-            .is_err_and(|e| e == ProtocolRefusal::Invalid),
-        true
+            .is_err_and(|e| e == ProtocolRefusal::Invalid)
     );
-    assert_eq!(rt; protocols.handles().guids_of(16)?.len(), 1);
     assert_eq!(rt; protocols.first_of(&guid(2)), None);
-    assert_eq!(rt; protocols.first_notified(20), None);
-    let installed = protocols.install_all(Some(32), &[(guid(2), 5), (guid(3), 6)])?;
-    assert_eq!(rt; installed.handle, Some(32));
+    let installed = protocols.install_all(None, &four)?;
+    assert_eq!(rt; installed.handle, Some(64));
     assert!(rt; installed.events.as_slice() == [24].as_slice());
-    assert_eq!(rt; protocols.install_all(None, &four)?.handle, Some(64));
-    assert_eq!(rt; protocols.install_all(None, &[])?.handle, None);
-    assert_eq!(rt; protocols.first_of(&guid(3)), Some(32));
-    assert_eq!(rt; protocols.first_notified(20), Some(32));
-    // The handle goes with its last protocol, so that a pair behind it finds no handle.
-    let gone = [(guid(3), 6), (guid(1), 8), (guid(2), 5), (guid(2), 5)];
-    let refused = Err(ProtocolRefusal::Invalid);
-    assert_eq!(rt; protocols.uninstall_all(32, &gone), refused);
-    let missing = Err(ProtocolRefusal::NotFound);
-    assert_eq!(rt;
-        protocols.uninstall_all(32, &[(guid(2), 5), (guid(2), 5)]),
-        missing
-    );
-    assert_eq!(rt;
-        protocols.uninstall_all(32, &[(guid(2), 5), (guid(3), 5)]),
-        missing
-    );
-    assert_eq!(rt; protocols.first_of(&guid(2)), Some(32));
-    assert_eq!(rt;
-        protocols.uninstall_all(32, &[(guid(3), 6), (guid(2), 5)]),
-        Ok(())
-    );
     assert_eq!(rt; protocols.first_of(&guid(2)), Some(64));
     assert_eq!(rt; protocols.first_notified(20), Some(64));
-    assert_eq!(rt; protocols.uninstall_all(17, &[]), Ok(()));
-    assert_eq!(rt; protocols.uninstall_all(17, &[(guid(1), 8)]), refused);
+    Ok(())
+}
+
+#[test]
+fn pairs_are_taken_together(rt: HostRuntime) -> Result<(), Fail> {
+    let there = [(guid(1), 5), (guid(2), 6)];
+    let invalid = Err(ProtocolRefusal::Invalid);
+    let missing = Err(ProtocolRefusal::NotFound);
+    // The handle; three pairs, by the GUID's number and the interface. It goes with its last protocol.
+    let rows = [
+        (17, [(1, 5), (2, 6), (2, 6)], invalid),
+        (16, [(1, 5), (1, 5), (2, 6)], missing),
+        (16, [(1, 5), (2, 5), (2, 6)], missing),
+        (16, [(2, 6), (1, 5), (1, 5)], invalid),
+    ];
+    for (handle, [first, second, third], wanted) in rows {
+        let mut protocols = Protocols::new(rt.alloc());
+        assert_eq!(rt; protocols.install_all(None, &there)?.handle, Some(16));
+        let pairs = [
+            (guid(first.0), first.1),
+            (guid(second.0), second.1),
+            (guid(third.0), third.1),
+        ];
+        assert_eq!(rt; protocols.uninstall_all(handle, &pairs), wanted);
+        assert_eq!(rt; protocols.uninstall_all(16, &there), Ok(()));
+    }
     Ok(())
 }
 
