@@ -65,7 +65,7 @@ all_here p hs d before after made number pairs target h events e l done is k put
     rw there (rw k (rw pending (rw counts (rw same refl))))
 
 -- without a pair nothing is installed
-none_pending : (rs : List Registration) (number : Option ℕ) → with_pending rs [] number ≡ rs
+pub none_pending : (rs : List Registration) (number : Option ℕ) → with_pending rs [] number ≡ rs
 unfolding all_notified
 none_pending rs None = refl
 none_pending rs (Some n) = map-id rs

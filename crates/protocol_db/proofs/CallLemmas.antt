@@ -49,7 +49,7 @@ unfolding installation
 install_full p number guid interface r is none = rw (full_is p.handles number guid interface (sym is ∙ none)) refl
 
 -- one pair alone
-one_pair : (guid : Guid) (interface n : ℕ) (rs : List Registration) → all_notified rs (is_for_any ((guid, interface) ∷ [])) n ≡ all_notified rs (is_for guid) n
+pub one_pair : (guid : Guid) (interface n : ℕ) (rs : List Registration) → all_notified rs (is_for_any ((guid, interface) ∷ [])) n ≡ all_notified rs (is_for guid) n
 unfolding all_notified
 one_pair guid interface n [] = refl
 one_pair guid interface n (r ∷ rs) = by (is_for guid r) (one_pair guid interface n rs)

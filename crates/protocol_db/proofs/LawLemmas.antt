@@ -40,7 +40,7 @@ last_is n (x ∷ xs) = by (x == n) (last_is n xs)
     by true h = refl
     by false h = h
 
-pended_is : (n : ℕ) (pending : List ℕ) → list_any (λ h. h == n) (pended n pending) ≡ true
+pub pended_is : (n : ℕ) (pending : List ℕ) → list_any (λ h. h == n) (pended n pending) ≡ true
 pended_is n pending = by (list_any (λ h. h == n) pending) refl
   where
     by : (b : Bool) → list_any (λ h. h == n) pending ≡ b → list_any (λ h. h == n) (if b then pending else pending ++ n ∷ []) ≡ true

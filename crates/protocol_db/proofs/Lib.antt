@@ -3,6 +3,7 @@ pub mod WholeLemmas
 pub mod CallLemmas
 pub mod PendingLemmas
 pub mod AllLemmas
+pub mod InstallLemmas
 pub mod OrderLemmas
 pub mod LawLemmas
 pub mod AloneLemmas

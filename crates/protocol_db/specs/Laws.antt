@@ -1,5 +1,5 @@
 -- What the definitions come to.
-use Rattle.std.specs.Prelude.{ℕ, ◌≡◌, ◌==◌, ◌&&◌, true, false, List, [], Option, Some, None, Result, Ok, Err}
+use Rattle.std.specs.Prelude.{ℕ, ◌≡◌, ◌==◌, ◌&&◌, true, false, List, [], ◌++◌, Option, Some, None, Result, Ok, Err}
 use Rattle.std.specs.List.{All, AllPairs, fold, list_any}
 use Rattle.std.specs.Option.{is_some}
 use Rattle.uh_base.specs.declared.guid.Guid.{Guid}
@@ -47,6 +47,19 @@ InstalledIsPending = (p : Protocols) (done : Done Installation) (number : Option
 abbrev pub AllInstalledArePending : Type 0
 AllInstalledArePending = (p : Protocols) (done : Done InstallationOfAll) (number : Option ℕ) (pairs : List (Guid × ℕ)) (handle : ℕ) → installation_of_all p number pairs ≡ Ok done → done.answer.handle ≡ Some handle
     → All (λ (r : Registration). is_for_any pairs r ≡ true → list_any (λ h. h == handle) r.pending ≡ true) done.after.registrations
+
+abbrev pub one_more : Done InstallationOfAll → Result (Done Installation) ProtocolRefusal → Result (Done InstallationOfAll) ProtocolRefusal
+one_more before (Ok done) = Ok (record { answer = record { handle = Some done.answer.handle; events = before.answer.events ++ done.answer.events }; after = done.after })
+one_more before (Err refusal) = Err refusal
+
+-- a pair that is installed after others, on the same handle
+abbrev pub installed_next : Result (Done InstallationOfAll) ProtocolRefusal → Guid × ℕ → Result (Done InstallationOfAll) ProtocolRefusal
+installed_next (Ok done) pair = one_more done (installation done.after done.answer.handle pair.0 pair.1)
+installed_next (Err refusal) pair = Err refusal
+
+-- Pairs that are installed together come as they come one after another, up to the first that is refused.
+abbrev pub AllInstalledInOrder : Type 0
+AllInstalledInOrder = (p : Protocols) (number : Option ℕ) (pairs : List (Guid × ℕ)) → installation_of_all p number pairs ≡ fold installed_next (Ok (record { answer = record { handle = number; events = [] }; after = p })) pairs
 
 -- At most one entry is by a driver or exclusive.
 abbrev pub IsOneAlone : List OpenEntry → Type 0

@@ -2,7 +2,7 @@
 //! a handle is pending at most once for a registration, `Protocols::whole` says of every state.
 #![tactic(auto)]
 
-ghost use Rattle.protocol_db.specs.Laws.{UninstalledIsWithdrawn, DiscardedIsWithdrawn, ReinstalledIsFresh, InstalledIsPending, AllInstalledArePending, AllUninstalledInOrder, OneAloneStays};
+ghost use Rattle.protocol_db.specs.Laws.{UninstalledIsWithdrawn, DiscardedIsWithdrawn, ReinstalledIsFresh, InstalledIsPending, AllInstalledArePending, AllInstalledInOrder, AllUninstalledInOrder, OneAloneStays};
 
 use handle_db::{
     discard_leaves_others, discarded_is_gone, removed_is_gone, replaced_is_fresh, same_is_equal,
@@ -45,6 +45,11 @@ pub fn installed_is_pending()
 /// The handle on which pairs were installed is pending for each registration of their protocols.
 pub fn all_installed_are_pending()
     ensures { AllInstalledArePending }
+{}
+
+/// Pairs that are installed together come as they come one after another, up to the first that is refused.
+pub fn all_installed_in_order()
+    ensures { AllInstalledInOrder }
 {}
 
 /// At most one entry of a protocol is by a driver or exclusive: at first, and after each call.
