@@ -1,0 +1,5 @@
+mod FrameLemmas
+mod EntryLemmas
+mod ContentsLemmas
+mod KeptLemmas
+mod SeenLemmas
