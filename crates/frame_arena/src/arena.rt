@@ -39,9 +39,13 @@ pub enum ArenaRefusal {
 pub struct Arena {
     alloc: Global,
     limit: u32,
+    // All that were requested, by id.
     frames: Vec<Frame>,
+    // Whether each of them is out.
     marks: Vec<bool>,
+    // How many are out.
     count: u32,
+    // What links to the frame that was given back last: the number of its id and one, or 0.
     first: u64,
 }
 
