@@ -1,13 +1,11 @@
 //! Files of the system.
-ghost use Rattle.std.specs.Prelude.{None, IfOk, vec_len, ◌≡◌, ◌≤◌};
+
+ghost use Rattle.std.specs.Prelude.{None, IfOk, IfSome, IsErrOf, vec_len, length, ◌≡◌, ◌≤◌, ◌<◌};
 
 use std::alloc::Global;
 use std::io::{ErrorKind, Read};
 use std::{fs, rt};
 use uh_base::{FileEnd, Files};
-
-/// How many bytes are read at once at most.
-const PIECE: usize = 4096;
 
 /// The files of the system. It tells no bytes; what a file holds is trusted.
 #[derive(Drop)]
@@ -31,29 +29,28 @@ impl<'a, R: rt::Files> HostFiles<'a, R> {
     }
 }
 
-/// The bytes of a source, of which there are at most `most`. A source that gives nothing is at its end; an
-/// interrupted read is tried again.
-pub fn read_all<S: Read>(source: &mut S, alloc: Global, most: usize) -> Result<Vec<u8>, FileEnd>
-    ensures { IfOk result (λ bytes. vec_len bytes ≤ most) }
+/// The bytes that a source gives up to its end, of which there are at most `most`.
+#[tactic(auto, using(crate::proofs::TakeLemmas::longer))]
+pub fn read_all<S: Read + Drop>(source: S, alloc: Global, most: usize) -> Result<Vec<u8>, FileEnd>
+    ensures most { IfOk result (λ bytes. vec_len bytes ≤ most) }
+    ensures whole { IfOk result (λ bytes. IfSome (S.remaining source) (λ told. bytes.items ≡ told)) }
+    ensures longer { IsErrOf result FileEnd.TooLong → IfSome (S.remaining source) (λ told. most < length told) }
 {
+    let limit = (most as u64).saturating_add(1);
     let mut bytes = Vec::new(alloc);
-    let mut piece = [0u8; PIECE];
-    for _ in 0..u64::MAX {
-        match source.read(&mut piece) {
-            Ok(0) => return Ok(bytes),
-            Ok(count) => {
-                if count > most - bytes.len() {
-                    return Err(FileEnd::TooLong);
-                }
-                if bytes.extend_from_slice(&piece[..count]).is_err() {
-                    return Err(FileEnd::Memory);
-                }
+    match source.take(limit).read_to_end(&mut bytes) {
+        Ok(_) => {
+            if bytes.len() as u64 >= limit {
+                Err(FileEnd::TooLong)
+            } else {
+                Ok(bytes)
             }
-            Err(e) if e.kind() == ErrorKind::Interrupted => {}
-            Err(_) => return Err(FileEnd::Failed),
         }
+        Err(e) => match e.kind() {
+            ErrorKind::OutOfMemory => Err(FileEnd::Memory),
+            _ => Err(FileEnd::Failed),
+        },
     }
-    Err(FileEnd::Failed)
 }
 
 /// The bytes of a file, of which there are at most `most`.
@@ -66,7 +63,7 @@ fn read_file<R: rt::Files>(
     ensures { IfOk result (λ bytes. vec_len bytes ≤ most) }
 {
     match fs::open(rt, name) {
-        Ok(mut file) => read_all(&mut file, alloc, most),
+        Ok(file) => read_all(file, alloc, most),
         Err(_) => Err(FileEnd::Failed),
     }
 }

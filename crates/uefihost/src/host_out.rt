@@ -1,7 +1,10 @@
 //! Outputs of the system.
-ghost use Rattle.std.specs.Prelude.{None, ◌≡◌};
 
-use std::io::{ErrorKind, Write};
+ghost use Rattle.std.specs.Prelude.{None, OnOk, ◌≡◌};
+ghost use Rattle.std.specs.Io.KnownBytes.{Appends};
+
+use std::io;
+use std::io::Write;
 use uh_base::{Failed, Sink};
 
 /// An output of the system. It tells no bytes; what it takes is trusted.
@@ -20,24 +23,12 @@ impl<W: Write> HostOut<W> {
     }
 }
 
-/// Writes all bytes. An output that takes nothing of a piece has failed; an interrupted write is tried again.
-fn write_all<W: Write>(to: &mut W, bytes: &[u8]) -> Result<(), Failed> {
-    let mut rest = bytes;
-    for _ in 0..u64::MAX {
-        if rest.is_empty() {
-            return match to.flush() {
-                Ok(()) => Ok(()),
-                Err(_) => Err(Failed),
-            };
-        }
-        match to.write(rest) {
-            Ok(0) => return Err(Failed),
-            Ok(count) => rest = &rest[count..],
-            Err(e) if e.kind() == ErrorKind::Interrupted => {}
-            Err(_) => return Err(Failed),
-        }
-    }
-    Err(Failed)
+/// Writes all bytes, and hands them on at once.
+fn write_through<W: Write>(to: &mut W, bytes: &[u8]) -> io::Result<()>
+    ensures { OnOk result (Appends (W.contents to.old) (W.contents to.new) bytes.now) }
+{
+    to.write_all(bytes)?;
+    to.flush()
 }
 
 impl<W: Write> Sink for HostOut<W> {
@@ -46,11 +37,11 @@ impl<W: Write> Sink for HostOut<W> {
     ghost faults = { λ sink. sink.faults };
 
     fn put(&mut self, bytes: &[u8]) -> Result<(), Failed> {
-        match write_all(&mut self.to, bytes) {
+        match write_through(&mut self.to, bytes) {
             Ok(()) => Ok(()),
-            Err(failed) => {
+            Err(_) => {
                 self.faults = self.faults.saturating_add(1);
-                Err(failed)
+                Err(Failed)
             }
         }
     }
