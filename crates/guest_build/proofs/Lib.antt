@@ -19,3 +19,4 @@ pub mod MadeLemmas
 pub mod PartLemmas
 pub mod SiteLemmas
 pub mod StandLemmas
+pub mod SizeLemmas

@@ -1,5 +1,5 @@
 -- What a reader of images finds in an assembled one.
-use Rattle.std.specs.Prelude.{◌≡◌, ◌<◌, ℕ, ◌+◌, ◌%◌, ◌^◌, ◌==◌, ◌&&◌, Bool, false, List, [], ◌∷◌, ◌++◌, length, map, take, drop, codes, slice_index, Option, Some, Result, Ok, Err, nat_le, nat_lt, if◌then◌else◌}
+use Rattle.std.specs.Prelude.{◌≡◌, ◌≤◌, ◌<◌, ℕ, ◌+◌, ◌%◌, ◌^◌, ◌==◌, ◌&&◌, Bool, false, List, [], ◌∷◌, ◌++◌, length, map, take, drop, codes, slice_index, Option, Some, Result, Ok, Err, nat_le, nat_lt, if◌then◌else◌}
 use Rattle.std.specs.Str.Lines.{lines}
 use Rattle.pe_image.specs.ImageOf.{Fields, image_of as read_image}
 use Rattle.pe_image.specs.Placed.{in_pages, placed_byte}
@@ -88,6 +88,10 @@ site_read site = record { at = site.at; kind = kind_read site.kind }
 abbrev pub AssembledImagesAreRead : Type 0
 AssembledImagesAreRead = (text bytes : List ℕ) → length bytes < 2 ^ 63 → assembled text ≡ Ok bytes
     → (entry : ℕ) × (all : Sections) × IsMadeOf text entry all × (bytes ≡ image_of entry all) × (read_image bytes ≡ image_read entry (layout_of all) all)
+
+-- an image that is assembled has at most 4 MiB
+abbrev pub AssembledImagesAreShort : Type 0
+AssembledImagesAreShort = (text bytes : List ℕ) → length bytes < 2 ^ 63 → assembled text ≡ Ok bytes → length bytes ≤ 2 ^ 22
 
 -- a list that has each byte of the placed image
 pub record IsPlaced (image : Fields) (file placed : List ℕ) : Type 0 where

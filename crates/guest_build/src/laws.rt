@@ -2,7 +2,7 @@
 #![tactic(auto)]
 
 ghost use Rattle.guest_build.specs.Decodes.{InstructionsDecode};
-ghost use Rattle.guest_build.specs.Read.{AssembledImagesAreRead, LinesStandAtTheirPlaces, SitesAreOfLabels};
+ghost use Rattle.guest_build.specs.Read.{AssembledImagesAreRead, AssembledImagesAreShort, LinesStandAtTheirPlaces, SitesAreOfLabels};
 
 use base_reloc::blocks_follow_each_other;
 use rv_decode::words_are_read_back;
@@ -18,6 +18,11 @@ pub fn instructions_decode()
 /// at an odd offset or behind all bytes.
 pub fn assembled_images_are_read()
     ensures { AssembledImagesAreRead }
+{}
+
+/// An image that is assembled has at most 4 MiB, so that it can be loaded as a file can.
+pub fn assembled_images_are_short()
+    ensures { AssembledImagesAreShort }
 {}
 
 /// The sites that are read in an assembled image, once it is placed, are those of its labels.

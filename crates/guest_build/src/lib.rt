@@ -28,6 +28,6 @@ mod word;
 pub use assembly::assemble;
 pub use fault::{AsmFault, AsmKind};
 pub use laws::{
-    assembled_images_are_read, instructions_decode, lines_stand_at_their_places,
-    sites_are_of_labels,
+    assembled_images_are_read, assembled_images_are_short, instructions_decode,
+    lines_stand_at_their_places, sites_are_of_labels,
 };
