@@ -6,7 +6,7 @@ use Rattle.host_engine.specs.declared.assembly.Unassembled.{Unassembled}
 use Rattle.host_engine.specs.declared.assembly.Unassembled.TheVariants as whys
 use Rattle.host_engine.specs.Assemblies.{Made, in_words, assembled_file}
 use Rattle.host_engine.specs.Commands.{code_file, build_answer, flat_answer, halts, plan_of}
-use Rattle.host_engine.specs.FlatRuns.{flat_end}
+use Rattle.host_engine.specs.Executions.{flat_end}
 use Rattle.host_engine.specs.Gives.{CommandGives, PutWhole, PutPart}
 use Rattle.host_engine.specs.Lines.{flat_text}
 use Rattle.host_engine.specs.Outside.{outside}

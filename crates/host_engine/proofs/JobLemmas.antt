@@ -49,16 +49,17 @@ module _ (whole : Job) (left n count : ℕ) (s : State) (old now new : Option (L
   pub goes_on : (t : State) → None ≡ end_in s.pc (turn_of s).happened → t ≡ (turn_of s).state → new ≡ grown now (bytes_of (lines_in (turn_of s).happened)) → SoFar whole (job_of n t) (count + 1) old new
   goes_on t e st p = rw st (goes_on_at (sym e) p)
 
-  pub ends_here : (end : JobEnd) (steps : ℕ) (t : State) → Some end ≡ end_in s.pc (turn_of s).happened → steps ≡ steps_at end + count → t ≡ (turn_of s).state → new ≡ grown now (bytes_of (lines_in (turn_of s).happened)) → Ended whole end steps t old new
-  ends_here end steps t h k st p =
+  pub ends_here : (end : JobEnd) (steps : ℕ) (t : State) → Some end ≡ end_in s.pc (turn_of s).happened → steps ≡ steps_at end + count → t ≡ (turn_of s).state → Ended whole end steps t
+  ends_here end steps t h k st =
       let back = sym h in
       let w = rw back at one in
-      record {
-        is_end = sym (ap (λ (j : Job). j.end) w);
-        is_steps = k ∙ sym (ap (λ (j : Job). j.steps) w);
-        is_state = st ∙ sym (ap (λ (j : Job). j.state) w);
-        put = put_more old now new so_far.before (lines_in (turn_of s).happened) so_far.put p ∙ ap (λ (j : Job). grown old (bytes_of j.lines)) (sym w);
-      }
+      record { is_end = sym (ap (λ (j : Job). j.end) w); is_steps = k ∙ sym (ap (λ (j : Job). j.steps) w); is_state = st ∙ sym (ap (λ (j : Job). j.state) w) }
+
+  pub put_here : (end : JobEnd) → Some end ≡ end_in s.pc (turn_of s).happened → new ≡ grown now (bytes_of (lines_in (turn_of s).happened)) → new ≡ grown old (bytes_of whole.lines)
+  put_here end h p =
+      let back = sym h in
+      let w = rw back at one in
+      put_more old now new so_far.before (lines_in (turn_of s).happened) so_far.put p ∙ ap (λ (j : Job). grown old (bytes_of j.lines)) (sym w)
 
   first_lines : (x : Option JobEnd) → end_in s.pc (turn_of s).happened ≡ x → (more : List Line) × (whole.lines ≡ so_far.before ++ (lines_in (turn_of s).happened ++ more))
   first_lines None h = let w = rw h at one in ((job_of n (turn_of s).state).lines, ap (λ (j : Job). j.lines) w)
@@ -69,15 +70,17 @@ module _ (whole : Job) (left n count : ℕ) (s : State) (old now new : Option (L
       let f = first_lines (end_in s.pc (turn_of s).happened) refl in
       part_more old now new so_far.before (lines_in (turn_of s).happened) f.0 whole.lines so_far.put f.1 p
 
-pub runs_out : (whole : Job) (left count : ℕ) (s : State) (old now : Option (List ℕ)) (steps : ℕ) → left ≡ zero → steps ≡ count → SoFar whole (job_of left s) count old now → Ended whole (Halted causes.Bound s.pc 0) steps s old now
-unfolding job_of
-runs_out whole left count s old now steps none k so_far =
-    let w = rw none at so_far.same in
-    let ls : whole.lines ≡ so_far.before = ap (λ (j : Job). j.lines) w ∙ append-nil so_far.before in
-    let zeroed : 0 + count ≡ count = omega arith in
-    record {
-      is_end = sym (ap (λ (j : Job). j.end) w);
-      is_steps = k ∙ sym zeroed ∙ sym (ap (λ (j : Job). j.steps) w);
-      is_state = sym (ap (λ (j : Job). j.state) w);
-      put = so_far.put ∙ ap (λ (x : List Line). grown old (bytes_of x)) (sym ls);
-    }
+module _ (whole : Job) (left count : ℕ) (s : State) (old now : Option (List ℕ)) (none : left ≡ zero) (so_far : SoFar whole (job_of left s) count old now) where
+  pub runs_out : (steps : ℕ) → steps ≡ count → Ended whole (Halted causes.Bound s.pc 0) steps s
+  unfolding job_of
+  runs_out steps k =
+      let w = rw none at so_far.same in
+      let zeroed : 0 + count ≡ count = omega arith in
+      record { is_end = sym (ap (λ (j : Job). j.end) w); is_steps = k ∙ sym zeroed ∙ sym (ap (λ (j : Job). j.steps) w); is_state = sym (ap (λ (j : Job). j.state) w) }
+
+  pub put_by_then : now ≡ grown old (bytes_of whole.lines)
+  unfolding job_of
+  put_by_then =
+      let w = rw none at so_far.same in
+      let ls : whole.lines ≡ so_far.before = ap (λ (j : Job). j.lines) w ∙ append-nil so_far.before in
+      so_far.put ∙ ap (λ (x : List Line). grown old (bytes_of x)) (sym ls)

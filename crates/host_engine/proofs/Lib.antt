@@ -1,7 +1,7 @@
 pub mod ByteLemmas
 pub mod PartLemmas
 pub mod PutLemmas
-pub mod RunLemmas
+pub mod ExecutionLemmas
 pub mod LineLemmas
 pub mod JobLemmas
 pub mod StepLemmas

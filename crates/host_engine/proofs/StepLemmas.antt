@@ -26,27 +26,30 @@ module _ (name : List ℕ) (bound : ℕ) (r : Running) (image : LoadedImage) (ol
       let job = job_of bound (begun r.machine image) in
       part_before old new (bytes_of job.lines) (line_bytes (last_line name job.steps job.end)) _ (sym (bytes_of-last job.lines (last_line name job.steps job.end))) h
 
-  pub in_last : (end : JobEnd) (steps : ℕ) (state : State) → Ended (job_of bound (begun r.machine image)) end steps state old now → GrownByPart now (line_bytes (last_line name steps end)) new → GrownByPart old (bytes_of (image_run name bound r image).lines) new
+  pub in_last : (end : JobEnd) (steps : ℕ) (state : State) → Ended (job_of bound (begun r.machine image)) end steps state → now ≡ grown old (bytes_of (job_of bound (begun r.machine image)).lines) → GrownByPart now (line_bytes (last_line name steps end)) new → GrownByPart old (bytes_of (image_run name bound r image).lines) new
   unfolding image_run
-  in_last end steps state ended h =
+  in_last end steps state ended put h =
       let job = job_of bound (begun r.machine image) in
       let same : last_line name steps end ≡ last_line name job.steps job.end = ap (λ n. last_line name n end) ended.is_steps ∙ ap (λ (e : JobEnd). last_line name job.steps e) ended.is_end in
-      part_behind old now new (bytes_of job.lines) (line_bytes (last_line name steps end)) _ ended.put
+      part_behind old now new (bytes_of job.lines) (line_bytes (last_line name steps end)) _ put
       (ap (λ (l : Line). bytes_of job.lines ++ line_bytes l) same ∙ sym (bytes_of-last job.lines (last_line name job.steps job.end))) h
 
-  pub over : (end : JobEnd) (steps : ℕ) (state : State) (halted : Bool) (to : Running) → Ended (job_of bound (begun r.machine image)) end steps state old now → new ≡ grown now (line_bytes (last_line name steps end))
-      → halted ≡ is_halt end → to ≡ record { machine = left_behind state end; place = r.place } → Made (image_run name bound r image) halted to old new
+  pub over : (end : JobEnd) (steps : ℕ) (state : State) (halted : Bool) (to : Running) → Ended (job_of bound (begun r.machine image)) end steps state
+      → halted ≡ is_halt end → to ≡ record { machine = left_behind state end; place = r.place } → Made (image_run name bound r image) halted to
   unfolding image_run
-  over end steps state halted to ended put h left =
+  over end steps state halted to ended h left =
+      let job = job_of bound (begun r.machine image) in
+      let state_same : left_behind state end ≡ left_behind job.state job.end = ap (λ (s : State). left_behind s end) ended.is_state ∙ ap (left_behind job.state) ended.is_end in
+      record { is_halted = h ∙ ap is_halt ended.is_end; is_running = left ∙ ap (λ (s : State). record { machine = s; place = r.place }) state_same }
+
+  pub put_over : (end : JobEnd) (steps : ℕ) (state : State) → Ended (job_of bound (begun r.machine image)) end steps state → now ≡ grown old (bytes_of (job_of bound (begun r.machine image)).lines) → new ≡ grown now (line_bytes (last_line name steps end))
+      → new ≡ grown old (bytes_of (image_run name bound r image).lines)
+  unfolding image_run
+  put_over end steps state ended first last =
       let job = job_of bound (begun r.machine image) in
       let same : last_line name steps end ≡ last_line name job.steps job.end = ap (λ n. last_line name n end) ended.is_steps ∙ ap (λ (e : JobEnd). last_line name job.steps e) ended.is_end in
-      let state_same : left_behind state end ≡ left_behind job.state job.end = ap (λ (s : State). left_behind s end) ended.is_state ∙ ap (left_behind job.state) ended.is_end in
-      record {
-        is_halted = h ∙ ap is_halt ended.is_end;
-        is_running = left ∙ ap (λ (s : State). record { machine = s; place = r.place }) state_same;
-        put = put ∙ ap (λ (o : Option (List ℕ)). grown o (line_bytes (last_line name steps end))) ended.put ∙ grown-grown old (bytes_of job.lines) (line_bytes (last_line name steps end))
-            ∙ ap (λ (l : Line). grown old (bytes_of job.lines ++ line_bytes l)) same ∙ ap (grown old) (sym (bytes_of-last job.lines (last_line name job.steps job.end)));
-      }
+      last ∙ ap (λ (o : Option (List ℕ)). grown o (line_bytes (last_line name steps end))) first ∙ grown-grown old (bytes_of job.lines) (line_bytes (last_line name steps end))
+      ∙ ap (λ (l : Line). grown old (bytes_of job.lines ++ line_bytes l)) same ∙ ap (grown old) (sym (bytes_of-last job.lines (last_line name job.steps job.end)))
 
 -- ---- a run of steps
 
@@ -85,20 +88,20 @@ module _ (script : Plain) (inputs : Inputs) (whole : Run) (steps : List Step) (i
       let cut : drop i steps ≡ step ∷ drop (i + 1) steps = subst (λ (x : Step). drop i steps ≡ x ∷ drop (i + 1) steps) (sym is) (drop_more steps i step below) in
       so_far.same ∙ ap (λ (ss : List Step). behind so_far.before (run_from script inputs r ss)) cut
 
-  pub goes_on : (to : Running) → Made (step_made script inputs step r) false to now new → SoFar whole (run_from script inputs to (drop (i + 1) steps)) old new
-  goes_on to made =
+  pub goes_on : (to : Running) → Made (step_made script inputs step r) false to → new ≡ grown now (bytes_of (step_made script inputs step r).lines) → SoFar whole (run_from script inputs to (drop (i + 1) steps)) old new
+  goes_on to made put =
       let rest = run_from script inputs (step_made script inputs step r).running (drop (i + 1) steps) in
       subst (λ (x : Running). SoFar whole (run_from script inputs x (drop (i + 1) steps)) old new) (sym made.is_running) (record {
         before = so_far.before ++ (step_made script inputs step r).lines;
         same = one ∙ ap (behind so_far.before) (goes (step_made script inputs step r) rest made.is_halted) ∙ ap (λ (ls : List Line). record { lines = ls; halted = rest.halted }) (sym (append_assoc so_far.before (step_made script inputs step r).lines rest.lines));
-        put = put_more old now new so_far.before (step_made script inputs step r).lines so_far.put made.put;
+        put = put_more old now new so_far.before (step_made script inputs step r).lines so_far.put put;
       })
 
-  pub halts_here : (to : Running) → Made (step_made script inputs step r) true to now new → Ran whole true old new
-  halts_here to made =
+  pub halts_here : (to : Running) → Made (step_made script inputs step r) true to → new ≡ grown now (bytes_of (step_made script inputs step r).lines) → Ran whole true old new
+  halts_here to made put =
       let rest = run_from script inputs (step_made script inputs step r).running (drop (i + 1) steps) in
       let w = one ∙ ap (behind so_far.before) (halts (step_made script inputs step r) rest made.is_halted) in
-      record { is_halted = sym (ap (λ (x : Run). x.halted) w); put = put_more old now new so_far.before (step_made script inputs step r).lines so_far.put made.put ∙ ap (λ (x : Run). grown old (bytes_of x.lines)) (sym w) }
+      record { is_halted = sym (ap (λ (x : Run). x.halted) w); put = put_more old now new so_far.before (step_made script inputs step r).lines so_far.put put ∙ ap (λ (x : Run). grown old (bytes_of x.lines)) (sym w) }
 
   pub stops_here : GrownByPart now (bytes_of (step_made script inputs step r).lines) new → GrownByPart old (bytes_of whole.lines) new
   stops_here p =

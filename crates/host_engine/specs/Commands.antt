@@ -10,7 +10,7 @@ use Rattle.host_script.specs.declared.script.ImageSpec.{ImageSpec}
 use Rattle.host_script.specs.declared.script.Origin.{Origin}
 use Rattle.host_script.specs.declared.script.Origin.TheVariants.{File, Text}
 use Rattle.host_engine.specs.Assemblies.{Made, in_words, assembled_file, all_made}
-use Rattle.host_engine.specs.FlatRuns.{Cause, Bound, Trapped, flat_end}
+use Rattle.host_engine.specs.Executions.{Cause, Bound, Trapped, flat_end}
 use Rattle.host_engine.specs.Jobs.{bytes_of}
 use Rattle.host_engine.specs.Limits.{script_limit, code_limit}
 use Rattle.host_engine.specs.Lines.{flat_text}
@@ -26,7 +26,7 @@ script_file name = record { name = name; most = script_limit }
 abbrev pub code_file : List ℕ → Wanted
 code_file name = record { name = name; most = code_limit }
 
--- a flat run is done where it ends at EBREAK, and halted elsewhere
+-- an execution is done where it ends at EBREAK, and halted elsewhere
 abbrev pub halts : Cause → Bool
 halts Bound = true
 halts (Trapped Illegal) = true

@@ -149,3 +149,11 @@ abbrev pub IsComplete : Option Command → Status → Outside → Outside → Ty
 IsComplete None status old new = status ≡ Words
 IsComplete (Some command) status old new =
     (files : FileMap) → old.files ≡ Some files → ¬ Rose old.file_faults new.file_faults → FilesGive files (first_missing files (plan_of command)) status old new
+
+-- ---- both
+
+-- What the program does with words: what it answers and puts, with the cause, and that the files that are there decide.
+-- `err` and `faults` are of the error output, before and behind.
+pub record HostDoes (command : Option Command) (status : Status) (old new : Outside) (err : Option (List ℕ)) (faults : ℕ) (err' : Option (List ℕ)) (faults' : ℕ) : Type 0 where
+  pub gives : HostGives command status old new err faults err' faults'
+  pub complete : IsComplete command status old new

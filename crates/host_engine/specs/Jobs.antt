@@ -1,5 +1,5 @@
 -- A job: turns of the machine until the running image returns, or the run is halted.
-use Rattle.std.specs.Prelude.{◌≡◌, ℕ, zero, suc, ◌+◌, List, [], ◌∷◌, ◌++◌, Option, Some, None}
+use Rattle.std.specs.Prelude.{◌≡◌, ◌≤◌, ℕ, zero, suc, ◌+◌, List, [], ◌∷◌, ◌++◌, Option, Some, None, Result, Err, OnOk, OnErr}
 use Rattle.std.specs.List.{flat_map}
 use Rattle.rv_step.specs.declared.bus.Access.TheVariants as access
 use Rattle.rv_step.specs.declared.ends.Trap.{Trap}
@@ -8,13 +8,16 @@ use Rattle.record_text.specs.declared.cause.Cause.TheVariants as causes
 use Rattle.record_text.specs.declared.line.Line.{Line}
 use Rattle.record_text.specs.declared.line.Line.TheVariants as lines
 use Rattle.record_text.specs.Texts.{text_of}
-use Rattle.uh_base.specs.Told.{grown}
+use Rattle.uh_base.specs.Counts.{Rose}
+use Rattle.uh_base.specs.Told.{grown, GrownByPart}
 use Rattle.firmware_core.specs.declared.happened.Happened.{Happened}
 use Rattle.firmware_core.specs.declared.happened.Happened.TheVariants as happened
 use Rattle.firmware_core.specs.Machines.{State}
 use Rattle.firmware_core.specs.Turns.{turn_of}
 use Rattle.host_engine.specs.declared.job.JobEnd.{JobEnd}
 use Rattle.host_engine.specs.declared.job.JobEnd.TheVariants.{Returned, Halted}
+use Rattle.host_engine.specs.declared.job.Stop.{Stop}
+use Rattle.host_engine.specs.declared.job.Stop.TheVariants.{Write}
 
 -- each line, and LF behind it
 abbrev pub line_bytes : Line → List ℕ
@@ -22,6 +25,14 @@ line_bytes line = text_of line ++ 10 ∷ []
 
 abbrev pub bytes_of : List Line → List ℕ
 bytes_of ls = flat_map line_bytes ls
+
+-- A text was put: whole where that went well, and else a part of it. A put failed in this call where that is why, and
+-- the count of those that failed never falls.
+pub record Puts {X : Type 0} (result : Result X Stop) (text : List ℕ) (old : Option (List ℕ)) (faults : ℕ) (new : Option (List ℕ)) (faults' : ℕ) : Type 0 where
+  pub whole : OnOk result (new ≡ grown old text)
+  pub part : OnErr result (GrownByPart old text new)
+  pub cause : result ≡ Err Write → Rose faults faults'
+  pub never_falls : faults ≤ faults'
 
 -- why a trap halts the run, and at which address
 abbrev pub halt_by : Trap → ℕ → JobEnd
@@ -73,9 +84,8 @@ unfoldable pub job_of : ℕ → State → Job
 job_of zero s = record { lines = []; end = Halted causes.Bound s.pc 0; steps = 0; state = s }
 job_of (suc more) s = joined (lines_in (turn_of s).happened) (end_in s.pc (turn_of s).happened) (turn_of s).state (job_of more (turn_of s).state)
 
--- A job has ended so, with its lines put.
-pub record Ended (whole : Job) (end : JobEnd) (steps : ℕ) (state : State) (old new : Option (List ℕ)) : Type 0 where
+-- A job has ended so.
+pub record Ended (whole : Job) (end : JobEnd) (steps : ℕ) (state : State) : Type 0 where
   pub is_end : end ≡ whole.end
   pub is_steps : steps ≡ whole.steps
   pub is_state : state ≡ whole.state
-  pub put : new ≡ grown old (bytes_of whole.lines)

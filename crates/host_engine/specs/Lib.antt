@@ -1,7 +1,7 @@
 pub mod Assemblies
 pub mod Commands
 pub mod FlatMemories
-pub mod FlatRuns
+pub mod Executions
 pub mod Gives
 pub mod Inputs
 pub mod Jobs

@@ -1,9 +1,10 @@
 -- The run of a script: the lines of its steps, in order.
-use Rattle.std.specs.Prelude.{◌≡◌, ℕ, List, [], ◌∷◌, ◌++◌, length, nat_le, ◌==◌, slice_index_or, Bool, true, false, Option, Some, None, Result, Ok, Err, if◌then◌else◌}
+use Rattle.std.specs.Prelude.{◌≡◌, ℕ, List, [], ◌∷◌, ◌++◌, ◌==◌, slice_index_or, Bool, true, false, Option, Some, None, Result, Ok, Err, if◌then◌else◌}
 use Rattle.std.specs.List.{position_or_len}
 use Rattle.std.specs.Str.{bytes_eq}
-use Rattle.uh_base.specs.Statuses.{load_error, invalid_parameter}
-use Rattle.uh_base.specs.Told.{grown}
+use Rattle.uh_base.specs.Statuses.{invalid_parameter}
+use Rattle.uh_base.specs.Counts.{Rose}
+use Rattle.uh_base.specs.Told.{grown, GrownByPart}
 use Rattle.record_text.specs.declared.line.Line.{Line}
 use Rattle.record_text.specs.declared.line.Line.TheVariants as lines
 use Rattle.host_script.specs.Plain.{Plain}
@@ -14,10 +15,11 @@ use Rattle.firmware_core.specs.declared.machine.LoadedImage.{LoadedImage}
 use Rattle.firmware_core.specs.Machines.{State}
 use Rattle.firmware_core.specs.Loads.{load_of, begun, ended}
 use Rattle.firmware_core.specs.Opening.{opened}
-use Rattle.host_engine.specs.Limits.{code_limit}
 use Rattle.host_engine.specs.declared.job.JobEnd.{JobEnd}
 use Rattle.host_engine.specs.declared.job.JobEnd.TheVariants.{Returned, Halted}
 use Rattle.host_engine.specs.Inputs.{Inputs}
+use Rattle.host_engine.specs.declared.script_run.Outcome.{Outcome}
+use Rattle.host_engine.specs.declared.script_run.Outcome.TheVariants as outcomes
 use Rattle.host_engine.specs.declared.script_run.Running.{Running}
 use Rattle.host_engine.specs.Jobs.{Job, job_of, bytes_of}
 
@@ -53,13 +55,9 @@ loaded name place r (Ok machine) = record {
 }
 loaded name place r (Err status) = record { lines = lines.Load name status 0 0 ∷ []; halted = false; running = r }
 
--- a file has at most 4 MiB
-abbrev pub file_loaded : State → List ℕ → Result State ℕ
-file_loaded machine file = if nat_le (length file) code_limit then load_of machine file else Err load_error
-
 -- the load of an image by its name, its place and its file
 unfoldable pub load_made : List ℕ → ℕ → List ℕ → Running → Stepped
-load_made name place file r = loaded name place r (file_loaded r.machine file)
+load_made name place file r = loaded name place r (load_of r.machine file)
 
 -- ---- start
 
@@ -129,13 +127,20 @@ at_opening ram_base = record { machine = opened ram_base 4096; place = 0 }
 unfoldable pub run_of : Plain → Inputs → Run
 run_of script inputs = run_from script inputs (at_opening script.ram_base) script.step
 
--- A step was made so, with its lines put.
-pub record Made (whole : Stepped) (halted : Bool) (running : Running) (old new : Option (List ℕ)) : Type 0 where
+-- A step was made so.
+pub record Made (whole : Stepped) (halted : Bool) (running : Running) : Type 0 where
   pub is_halted : halted ≡ whole.halted
   pub is_running : running ≡ whole.running
-  pub put : new ≡ grown old (bytes_of whole.lines)
 
 -- A run was made so, with its lines put.
 pub record Ran (whole : Run) (halted : Bool) (old new : Option (List ℕ)) : Type 0 where
   pub is_halted : halted ≡ whole.halted
   pub put : new ≡ grown old (bytes_of whole.lines)
+
+-- What the run of a script came to: its lines were put whole, and its last line is a halt or not; or a part of them was
+-- put, since a put failed in this call or memory was wanting.
+abbrev pub RunGives : Run → Outcome → Option (List ℕ) → ℕ → Option (List ℕ) → ℕ → Type 0
+RunGives run outcomes.Done old faults new faults' = Ran run false old new
+RunGives run outcomes.Halted old faults new faults' = Ran run true old new
+RunGives run outcomes.Write old faults new faults' = Rose faults faults' × GrownByPart old (bytes_of run.lines) new
+RunGives run outcomes.Memory old faults new faults' = GrownByPart old (bytes_of run.lines) new

@@ -41,5 +41,5 @@ AssemblyGives view (Err why) wanted = IsWhy why wanted
 
 -- what an image is made to, by its file's bytes or its text
 abbrev pub made : Code → Made
-made (code.File bytes) = Ok bytes.items
+made (code.File image) = Ok image.bytes.items
 made (code.Text listing) = in_words listing.name.now (assembled listing.text.now)

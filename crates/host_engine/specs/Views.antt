@@ -2,10 +2,10 @@
 use Rattle.rv_step.specs.Exec.{State}
 use Rattle.host_engine.specs.declared.command.Command as code
 use Rattle.host_engine.specs.declared.command.Command.TheVariants as commands
-use Rattle.host_engine.specs.declared.flat_run.FlatEnd.{FlatEnd}
-use Rattle.host_engine.specs.declared.flat_run.FlatCause.{FlatCause}
-use Rattle.host_engine.specs.declared.flat_run.FlatCause.TheVariants as causes
-use Rattle.host_engine.specs.FlatRuns.{Cause, Bound, Trapped, End}
+use Rattle.host_engine.specs.declared.execution.FlatEnd.{FlatEnd}
+use Rattle.host_engine.specs.declared.execution.FlatCause.{FlatCause}
+use Rattle.host_engine.specs.declared.execution.FlatCause.TheVariants as causes
+use Rattle.host_engine.specs.Executions.{Cause, Bound, Trapped, End}
 use Rattle.host_engine.specs.Words.{Command, Help, Version, Flat, Build, Run}
 
 abbrev pub asked : code.Command → Command

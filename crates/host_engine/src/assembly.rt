@@ -1,12 +1,13 @@
 //! Texts that are assembled, and what is said of those that aren't.
 #![tactic(auto)]
 
-ghost use Rattle.std.specs.Prelude.{◌≡◌, ◌<◌, ◌-◌, ◌^◌, Err, length};
+ghost use Rattle.std.specs.Prelude.{◌≡◌, ◌≤◌, ◌<◌, ◌-◌, ◌^◌, Err, IfOk, length, vec_len};
 ghost use Rattle.guest_build.specs.Assembled.{assembled};
 ghost use Rattle.host_engine.specs.Assemblies.{in_words};
+ghost use Rattle.host_engine.specs.Limits.{code_limit};
 ghost use Rattle.host_engine.specs.Stages.{AssemblyGives, IsWhy};
 
-use guest_build::{AsmFault, AsmKind, assemble};
+use guest_build::{AsmFault, AsmKind, assemble, assembled_images_are_short};
 use std::alloc::Global;
 
 /// Why there is no image of a text.
@@ -31,8 +32,10 @@ pub fn refused(alloc: Global, name: &str, line: u32, kind: AsmKind) -> Unassembl
 /// The image of a text, under the name of its image or file.
 pub fn assembly(alloc: Global, name: &str, text: &str) -> Result<Vec<u8>, Unassembled>
     requires { length text.now < 2 ^ 32 - 1 }
-    ensures { AssemblyGives (λ image. image.items) result (in_words name.now (assembled text.now)) }
+    ensures gives { AssemblyGives (λ image. image.items) result (in_words name.now (assembled text.now)) }
+    ensures short { IfOk result (λ image. vec_len image ≤ code_limit) }
 {
+    assembled_images_are_short();
     match assemble(alloc, text) {
         Ok(image) => Ok(image),
         Err(AsmFault::At { line, kind }) => Err(refused(alloc, name, line, kind)),

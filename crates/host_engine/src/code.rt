@@ -1,5 +1,14 @@
 //! What the images of a script are made of.
-ghost use Rattle.std.specs.Prelude.{◌<◌, length};
+ghost use Rattle.std.specs.Prelude.{◌<◌, ◌≤◌, length, vec_len};
+ghost use Rattle.host_engine.specs.Limits.{code_limit};
+
+/// The bytes of an image: those of its file, or those that its text is assembled to.
+#[derive(Drop)]
+pub struct ImageFile {
+    /// The bytes, of which there are at most 4 MiB.
+    pub bytes: Vec<u8>,
+    ghost short: { vec_len bytes ≤ code_limit },
+}
 
 /// A text that is still to be assembled, under the name of its image.
 #[derive(Drop)]
@@ -15,7 +24,7 @@ pub struct Listing<'a> {
 #[derive(Drop)]
 pub enum Code<'a> {
     /// The bytes of its file.
-    File(Vec<u8>),
+    File(ImageFile),
     /// Its text.
     Text(Listing<'a>),
 }

@@ -3,7 +3,7 @@
 
 ghost use Rattle.std.specs.Prelude.{◌≡◌, ◌≤◌, length, IfOk};
 ghost use Rattle.host_engine.specs.Commands.{plan_of, halts};
-ghost use Rattle.host_engine.specs.FlatRuns.{flat_end};
+ghost use Rattle.host_engine.specs.Executions.{flat_end};
 ghost use Rattle.host_engine.specs.Gives.{CommandGives};
 ghost use Rattle.host_engine.specs.Limits.{code_limit};
 ghost use Rattle.host_engine.specs.Lines.{flat_text};
@@ -11,9 +11,9 @@ ghost use Rattle.host_engine.specs.Outside.{outside};
 ghost use Rattle.host_engine.specs.Views.{cause_of};
 ghost use Rattle.host_engine.specs.Words.{Flat};
 
+use crate::execution::{FlatCause, execute};
 use crate::flat_line::line;
 use crate::flat_memory::{BASE, FlatMemory};
-use crate::flat_run::{FlatCause, run};
 use crate::limits::CODE_LIMIT;
 use crate::refusal::{Refusal, read_file};
 use rv_decode::KnownWords;
@@ -21,7 +21,7 @@ use rv_step::{Regs, Trap};
 use std::alloc::{AllocError, Global};
 use uh_base::{Files, Sink};
 
-/// Whether a run that ended so is halted.
+/// Whether an execution that ended so is halted.
 fn halts(cause: FlatCause) -> bool
     ensures { result ≡ halts (cause_of cause) }
 {
@@ -31,8 +31,8 @@ fn halts(cause: FlatCause) -> bool
     }
 }
 
-/// The run of a file's bytes: whether it is halted, and its text.
-fn run_file(alloc: Global, file: &[u8], bound: u64) -> Result<(bool, Vec<u8>), AllocError>
+/// The execution of a file's bytes: whether it is halted, and its text.
+fn execute_file(alloc: Global, file: &[u8], bound: u64) -> Result<(bool, Vec<u8>), AllocError>
     requires { length file.now ≤ code_limit }
     ensures halted { IfOk result (λ ran. ran.0 ≡ halts (flat_end file.now bound).cause) }
     ensures text { IfOk result (λ ran. ran.1.items ≡ flat_text file.now bound) }
@@ -43,11 +43,11 @@ fn run_file(alloc: Global, file: &[u8], bound: u64) -> Result<(bool, Vec<u8>), A
         x: [0; 32],
         pc: BASE,
     };
-    let end = run(&mut known, &mut regs, &mut memory, bound);
+    let end = execute(&mut known, &mut regs, &mut memory, bound);
     Ok((halts(end.cause), line(alloc, end, &regs)?))
 }
 
-/// Reads a file, runs its bytes and puts the line of the run; true where the run is halted.
+/// Reads a file, executes its bytes and puts the line of that; true where it is halted.
 pub fn flat<F: Files, O: Sink>(
     alloc: Global,
     name: &str,
@@ -63,7 +63,7 @@ pub fn flat<F: Files, O: Sink>(
         Ok(file) => file,
         Err(refusal) => return Err(refusal),
     };
-    let (halted, text) = match run_file(alloc, file.as_slice(), bound) {
+    let (halted, text) = match execute_file(alloc, file.as_slice(), bound) {
         Ok(ran) => ran,
         Err(_) => return Err(Refusal::Memory),
     };

@@ -1,4 +1,4 @@
-//! The line of a flat run.
+//! The line of an execution.
 #![tactic(auto)]
 
 ghost use Rattle.std.specs.Prelude.{◌≡◌, ◌++◌, ◌∷◌, [], ℕ, IfOk};
@@ -6,7 +6,7 @@ ghost use Rattle.rv_step.specs.Steps.{state_of};
 ghost use Rattle.host_engine.specs.Lines.{line_of, cause_text};
 ghost use Rattle.host_engine.specs.Views.{end_of, cause_of};
 
-use crate::flat_run::{FlatCause, FlatEnd};
+use crate::execution::{FlatCause, FlatEnd};
 use rv_step::{Access, Regs, Trap};
 use std::alloc::{AllocError, Global};
 use uh_base::push_hex;
@@ -27,7 +27,7 @@ fn cause_name(cause: FlatCause) -> &'static str
     }
 }
 
-/// The line of a run that ended so and left these registers, with its LF.
+/// The line of an execution that ended so and left these registers, with its LF.
 #[tactic(auto, unfolding(crate::specs::Lines::line_of))]
 pub fn line(alloc: Global, end: FlatEnd, regs: &Regs) -> Result<Vec<u8>, AllocError>
     ensures { IfOk result (λ text. (bytes : ℕ → ℕ) → text.items ≡ line_of (end_of end (state_of regs.now bytes)) ++ 10 ∷ []) }

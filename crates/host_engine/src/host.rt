@@ -5,7 +5,7 @@ ghost use Rattle.std.specs.Prelude.{◌≡◌, map, string_bytes};
 ghost use Rattle.host_engine.specs.Commands.{plan_of};
 ghost use Rattle.host_engine.specs.Outside.{outside};
 ghost use Rattle.host_engine.specs.Texts.{help_text, version_text};
-ghost use Rattle.host_engine.specs.Gives.{CommandGives, text_in, HostGives, IsComplete};
+ghost use Rattle.host_engine.specs.Gives.{CommandGives, text_in, HostDoes};
 ghost use Rattle.host_engine.specs.Views.{asked};
 ghost use Rattle.host_engine.specs.Words.{Help, Version, command_of};
 
@@ -108,13 +108,10 @@ pub fn host_main<F: Files, O: Sink, E: Sink>(
     out: &mut O,
     err: &mut E,
 ) -> Status
-    ensures gives { HostGives (command_of (map string_bytes words.now)) result
+    ensures { HostDoes (command_of (map string_bytes words.now)) result
         (outside (F.told files.old) (F.faults files.old) (F.longs files.old) (O.written out.old) (O.faults out.old))
         (outside (F.told files.new) (F.faults files.new) (F.longs files.new) (O.written out.new) (O.faults out.new))
         (E.written err.old) (E.faults err.old) (E.written err.new) (E.faults err.new) }
-    ensures complete { IsComplete (command_of (map string_bytes words.now)) result
-        (outside (F.told files.old) (F.faults files.old) (F.longs files.old) (O.written out.old) (O.faults out.old))
-        (outside (F.told files.new) (F.faults files.new) (F.longs files.new) (O.written out.new) (O.faults out.new)) }
 {
     let command = match read_words(words) {
         Some(command) => command,

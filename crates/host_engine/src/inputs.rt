@@ -9,7 +9,7 @@ ghost use Rattle.host_engine.specs.Plans.{Plan, Leads};
 ghost use Rattle.host_engine.specs.Stages.{Onward, Refuses, AssemblyGives, made};
 
 use crate::assembly::{Unassembled, assembly};
-use crate::code::{Code, Listing};
+use crate::code::{Code, ImageFile, Listing};
 use crate::limits::CODE_LIMIT;
 use crate::refusal::{Refusal, read_file};
 use host_script::{Origin, Script};
@@ -21,7 +21,7 @@ use uh_base::Files;
 #[derive(Drop)]
 pub struct Inputs {
     /// The bytes of the script's images, in the script's order.
-    pub images: Vec<Vec<u8>>,
+    pub images: Vec<ImageFile>,
 }
 
 impl Model for Inputs {
@@ -30,7 +30,7 @@ impl Model for Inputs {
 
     ghost Value = { Inputs };
 
-    ghost view = { λ inputs. record { images = map (λ image. image.items) inputs.images.items } };
+    ghost view = { λ inputs. record { images = map (λ image. image.bytes.items) inputs.images.items } };
 }
 
 /// What an image is made of: its text, or the bytes of its file, of which there are at most 4 MiB.
@@ -47,7 +47,7 @@ fn code_of<'a, F: Files>(
 {
     match origin {
         Origin::File(file) => match read_file(alloc, file.as_str(), CODE_LIMIT, files) {
-            Ok(bytes) => Ok(Code::File(bytes)),
+            Ok(bytes) => Ok(Code::File(ImageFile { bytes })),
             Err(refusal) => Err(refusal),
         },
         Origin::Text(text) => Ok(Code::Text(Listing {
@@ -84,18 +84,21 @@ pub fn read_images<'a, F: Files>(
 }
 
 /// The bytes of an image: those of its file, or those that its text is assembled to.
-fn image_of(alloc: Global, code: Code<'_>) -> Result<Vec<u8>, Unassembled>
-    ensures { AssemblyGives (λ image. image.items) result (made code.entry) }
+fn image_of(alloc: Global, code: Code<'_>) -> Result<ImageFile, Unassembled>
+    ensures { AssemblyGives (λ image. image.bytes.items) result (made code.entry) }
 {
     match code {
-        Code::File(bytes) => Ok(bytes),
-        Code::Text(listing) => assembly(alloc, listing.name, listing.text),
+        Code::File(image) => Ok(image),
+        Code::Text(listing) => match assembly(alloc, listing.name, listing.text) {
+            Ok(bytes) => Ok(ImageFile { bytes }),
+            Err(why) => Err(why),
+        },
     }
 }
 
 /// Assembles the texts among images, in their order.
-pub fn assemble_texts(alloc: Global, codes: Vec<Code<'_>>) -> Result<Vec<Vec<u8>>, Unassembled>
-    ensures gives { AssemblyGives (λ images. map (λ image. image.items) images.items) result (all_made (map made codes.entry.items)) }
+pub fn assemble_texts(alloc: Global, codes: Vec<Code<'_>>) -> Result<Vec<ImageFile>, Unassembled>
+    ensures gives { AssemblyGives (λ images. map (λ image. image.bytes.items) images.items) result (all_made (map made codes.entry.items)) }
     ensures many { IfOk result (λ images. length images.items ≡ length codes.entry.items) }
 {
     let mut images = Vec::new(alloc);

@@ -1,9 +1,7 @@
 //! A job: turns until the running image returns, or the run is halted. Each line is put as it comes.
-ghost use Rattle.std.specs.Prelude.{◌≡◌, ◌≤◌, ◌<◌, ◌+◌, ◌-◌, ◌^◌, IfOk, OnErr, OnOk, Err};
-ghost use Rattle.uh_base.specs.Counts.{Rose};
-ghost use Rattle.uh_base.specs.Told.{grown, GrownByPart};
+ghost use Rattle.std.specs.Prelude.{◌≡◌, ◌<◌, ◌+◌, ◌-◌, ◌^◌, IfOk, OnOk};
 ghost use Rattle.firmware_core.specs.Turns.{turn_of};
-ghost use Rattle.host_engine.specs.Jobs.{line_bytes, bytes_of, lines_in, end_in, halt_by, job_of, steps_at, Ended};
+ghost use Rattle.host_engine.specs.Jobs.{line_bytes, bytes_of, lines_in, end_in, halt_by, job_of, steps_at, Ended, Puts};
 
 use firmware_core::{Happened, Machine};
 use record_text::{Cause, Line, line_text};
@@ -31,10 +29,7 @@ pub enum JobEnd {
 
 /// Puts a line and LF.
 pub fn put_line<O: Sink>(alloc: Global, line: &Line, out: &mut O) -> Result<(), Stop>
-    ensures ok { OnOk result (O.written out.new ≡ grown (O.written out.old) (line_bytes line.now)) }
-    ensures part { OnErr result (GrownByPart (O.written out.old) (line_bytes line.now) (O.written out.new)) }
-    ensures cause { result ≡ Err Stop.Write → Rose (O.faults out.old) (O.faults out.new) }
-    ensures never_falls { O.faults out.old ≤ O.faults out.new }
+    ensures { Puts result (line_bytes line.now) (O.written out.old) (O.faults out.old) (O.written out.new) (O.faults out.new) }
 {
     let mut text = match line_text(alloc, line) {
         Ok(text) => text,
@@ -73,10 +68,7 @@ fn make_turn<O: Sink>(
 ) -> Result<Option<JobEnd>, Stop>
     ensures end { IfOk result (λ end. end ≡ end_in machine.old.pc (turn_of machine.old).happened) }
     ensures state { OnOk result (machine.new ≡ (turn_of machine.old).state) }
-    ensures bytes { OnOk result (O.written out.new ≡ grown (O.written out.old) (bytes_of (lines_in (turn_of machine.old).happened))) }
-    ensures part { OnErr result (GrownByPart (O.written out.old) (bytes_of (lines_in (turn_of machine.old).happened)) (O.written out.new)) }
-    ensures cause { result ≡ Err Stop.Write → Rose (O.faults out.old) (O.faults out.new) }
-    ensures never_falls { O.faults out.old ≤ O.faults out.new }
+    ensures puts { Puts result (bytes_of (lines_in (turn_of machine.old).happened)) (O.written out.old) (O.faults out.old) (O.written out.new) (O.faults out.new) }
 {
     let pc = machine.pc();
     match machine.turn(alloc) {
@@ -99,10 +91,8 @@ pub fn run_job<O: Sink>(
     bound: u64,
     out: &mut O,
 ) -> Result<(JobEnd, u64), Stop>
-    ensures ok { IfOk result (λ end. Ended (job_of bound machine.old) end.0 end.1 machine.new (O.written out.old) (O.written out.new)) }
-    ensures part { OnErr result (GrownByPart (O.written out.old) (bytes_of (job_of bound machine.old).lines) (O.written out.new)) }
-    ensures cause { result ≡ Err Stop.Write → Rose (O.faults out.old) (O.faults out.new) }
-    ensures never_falls { O.faults out.old ≤ O.faults out.new }
+    ensures ended { IfOk result (λ end. Ended (job_of bound machine.old) end.0 end.1 machine.new) }
+    ensures puts { Puts result (bytes_of (job_of bound machine.old).lines) (O.written out.old) (O.faults out.old) (O.written out.new) (O.faults out.new) }
 {
     for turn in 0..bound {
         match make_turn(alloc, machine, out) {

@@ -1,5 +1,5 @@
 //! Why the text of a command wasn't put whole.
-ghost use Rattle.std.specs.Prelude.{◌≡◌, ℕ, List, IfOk, IfErr};
+ghost use Rattle.std.specs.Prelude.{◌≡◌, ◌≤◌, ℕ, List, IfOk, IfErr, vec_len};
 ghost use Rattle.host_engine.specs.Plans.{Plan, Reads, IsFile};
 ghost use Rattle.host_engine.specs.Stages.{Onward, Refuses};
 
@@ -47,6 +47,7 @@ pub fn read_file<F: Files>(
     files: &mut F,
 ) -> Result<Vec<u8>, Refusal>
     ensures had { IfOk result (λ file. IsFile (F.told files.old) (record { name = name.now; most = most }) file.items) }
+    ensures most { IfOk result (λ file. vec_len file ≤ most) }
     ensures refused { IfErr result (λ refusal. (next : List ℕ → Plan) → Refuses (Reads (record { name = name.now; most = most }) next) refusal (F.told files.old) (F.faults files.old) (F.longs files.old) (F.faults files.new) (F.longs files.new)) }
     ensures onward { Onward (F.told files.old) (F.told files.new) (F.faults files.old) (F.faults files.new) (F.longs files.old) (F.longs files.new) }
 {

@@ -1,17 +1,14 @@
 //! The run of a script over the files of its images.
-ghost use Rattle.std.specs.Prelude.{◌≡◌, ◌≤◌, ◌<◌, ◌∷◌, [], ℕ, IfOk, OnErr, OnOk, OnSome, Err, Some, length, map, true, false};
-ghost use Rattle.uh_base.specs.Counts.{Rose};
-ghost use Rattle.uh_base.specs.Told.{grown, GrownByPart};
+ghost use Rattle.std.specs.Prelude.{◌≡◌, ◌<◌, IfOk, OnErr, OnSome, Err, Some, length, map, true};
 ghost use Rattle.record_text.specs.declared.line.Line.TheVariants as lines;
-ghost use Rattle.firmware_core.specs.Views.{LoadGives};
 ghost use Rattle.host_script.specs.Script.{is_ram_base};
 ghost use Rattle.host_script.specs.Forms.{IsScript, IsStep};
-ghost use Rattle.host_engine.specs.Jobs.{line_bytes, bytes_of};
-ghost use Rattle.host_engine.specs.ScriptRuns.{place_of, file_at, startable, file_loaded, load_made, last_line, left_behind, is_halt, image_run, start_made, step_made, run_of, at_opening, Made, Ran};
+ghost use Rattle.host_engine.specs.Jobs.{line_bytes, bytes_of, Puts};
+ghost use Rattle.host_engine.specs.ScriptRuns.{place_of, file_at, startable, load_made, last_line, left_behind, is_halt, image_run, start_made, step_made, run_of, at_opening, Made, RunGives};
 
+use crate::code::ImageFile;
 use crate::inputs::Inputs;
 use crate::job::{JobEnd, Stop, put_line, run_job};
-use crate::limits::CODE_LIMIT;
 use firmware_core::{LoadedImage, Machine};
 use host_script::{ImageSpec, Script, Step};
 use record_text::{Cause, Line};
@@ -40,25 +37,11 @@ fn place_of(images: &[ImageSpec], name: &str) -> usize
 }
 
 /// The file at a place.
-fn file_at(files: &[Vec<u8>], place: usize) -> &[u8]
+fn file_at(files: &[ImageFile], place: usize) -> &ImageFile
     requires { place < length files.now }
-    ensures { result.now ≡ file_at (map (λ file. file.items) files.now) place }
+    ensures { result.now.bytes.items ≡ file_at (map (λ file. file.bytes.items) files.now) place }
 {
-    files[place].as_slice()
-}
-
-/// Loads a file.
-fn load_file(
-    alloc: Global,
-    machine: &mut Machine,
-    file: &[u8],
-) -> Result<Result<LoadedImage, EfiStatus>, AllocError>
-    ensures { IfOk result (λ loaded. LoadGives loaded machine.old machine.new (file_loaded machine.old file.now)) }
-{
-    if file.len() > CODE_LIMIT {
-        return Ok(Err(EfiStatus::LOAD_ERROR));
-    }
-    machine.load(alloc, file)
+    &files[place]
 }
 
 /// A name once more.
@@ -81,10 +64,7 @@ fn put_load<O: Sink>(
     pages: u32,
     out: &mut O,
 ) -> Result<(), Stop>
-    ensures ok { OnOk result (O.written out.new ≡ grown (O.written out.old) (line_bytes (lines.Load name.now status base pages))) }
-    ensures part { OnErr result (GrownByPart (O.written out.old) (line_bytes (lines.Load name.now status base pages)) (O.written out.new)) }
-    ensures cause { result ≡ Err Stop.Write → Rose (O.faults out.old) (O.faults out.new) }
-    ensures never_falls { O.faults out.old ≤ O.faults out.new }
+    ensures { Puts result (line_bytes (lines.Load name.now status base pages)) (O.written out.old) (O.faults out.old) (O.written out.new) (O.faults out.new) }
 {
     let name = copy_of(alloc, name)?;
     put_line(
@@ -107,10 +87,7 @@ fn put_start<O: Sink>(
     steps: u64,
     out: &mut O,
 ) -> Result<(), Stop>
-    ensures ok { OnOk result (O.written out.new ≡ grown (O.written out.old) (line_bytes (lines.Start name.now status steps))) }
-    ensures part { OnErr result (GrownByPart (O.written out.old) (line_bytes (lines.Start name.now status steps)) (O.written out.new)) }
-    ensures cause { result ≡ Err Stop.Write → Rose (O.faults out.old) (O.faults out.new) }
-    ensures never_falls { O.faults out.old ≤ O.faults out.new }
+    ensures { Puts result (line_bytes (lines.Start name.now status steps)) (O.written out.old) (O.faults out.old) (O.written out.new) (O.faults out.new) }
 {
     let name = copy_of(alloc, name)?;
     put_line(
@@ -130,16 +107,14 @@ fn load<O: Sink>(
     alloc: Global,
     name: &Text,
     place: usize,
-    file: &[u8],
+    file: &ImageFile,
     running: &mut Running,
     out: &mut O,
 ) -> Result<bool, Stop>
-    ensures ok { IfOk result (λ halted. Made (load_made name.now place file.now running.old) halted running.new (O.written out.old) (O.written out.new)) }
-    ensures part { OnErr result (GrownByPart (O.written out.old) (bytes_of (load_made name.now place file.now running.old).lines) (O.written out.new)) }
-    ensures cause { result ≡ Err Stop.Write → Rose (O.faults out.old) (O.faults out.new) }
-    ensures never_falls { O.faults out.old ≤ O.faults out.new }
+    ensures made { IfOk result (λ halted. Made (load_made name.now place file.now.bytes.items running.old) halted running.new) }
+    ensures puts { Puts result (bytes_of (load_made name.now place file.now.bytes.items running.old).lines) (O.written out.old) (O.faults out.old) (O.written out.new) (O.faults out.new) }
 {
-    let loaded = match load_file(alloc, &mut running.machine, file) {
+    let loaded = match running.machine.load(alloc, file.bytes.as_slice()) {
         Ok(loaded) => loaded,
         Err(_) => return Err(Stop::Memory),
     };
@@ -178,10 +153,7 @@ fn put_last<O: Sink>(
     steps: u64,
     out: &mut O,
 ) -> Result<(), Stop>
-    ensures ok { OnOk result (O.written out.new ≡ grown (O.written out.old) (line_bytes (last_line name.now steps end))) }
-    ensures part { OnErr result (GrownByPart (O.written out.old) (line_bytes (last_line name.now steps end)) (O.written out.new)) }
-    ensures cause { result ≡ Err Stop.Write → Rose (O.faults out.old) (O.faults out.new) }
-    ensures never_falls { O.faults out.old ≤ O.faults out.new }
+    ensures { Puts result (line_bytes (last_line name.now steps end)) (O.written out.old) (O.faults out.old) (O.written out.new) (O.faults out.new) }
 {
     match end {
         JobEnd::Returned(status) => put_start(alloc, name, status, steps, out),
@@ -214,10 +186,8 @@ fn run_image<O: Sink>(
     out: &mut O,
 ) -> Result<bool, Stop>
     requires { running.old.machine.image ≡ Some image }
-    ensures ok { IfOk result (λ halted. Made (image_run name.now bound running.old image) halted running.new (O.written out.old) (O.written out.new)) }
-    ensures part { OnErr result (GrownByPart (O.written out.old) (bytes_of (image_run name.now bound running.old image).lines) (O.written out.new)) }
-    ensures cause { result ≡ Err Stop.Write → Rose (O.faults out.old) (O.faults out.new) }
-    ensures never_falls { O.faults out.old ≤ O.faults out.new }
+    ensures made { IfOk result (λ halted. Made (image_run name.now bound running.old image) halted running.new) }
+    ensures puts { Puts result (bytes_of (image_run name.now bound running.old image).lines) (O.written out.old) (O.faults out.old) (O.written out.new) (O.faults out.new) }
 {
     running.machine.begin(image);
     match run_job(alloc, &mut running.machine, bound, out) {
@@ -239,10 +209,8 @@ fn start<O: Sink>(
     running: &mut Running,
     out: &mut O,
 ) -> Result<bool, Stop>
-    ensures ok { IfOk result (λ halted. Made (start_made name.now place bound running.old) halted running.new (O.written out.old) (O.written out.new)) }
-    ensures part { OnErr result (GrownByPart (O.written out.old) (bytes_of (start_made name.now place bound running.old).lines) (O.written out.new)) }
-    ensures cause { result ≡ Err Stop.Write → Rose (O.faults out.old) (O.faults out.new) }
-    ensures never_falls { O.faults out.old ≤ O.faults out.new }
+    ensures made { IfOk result (λ halted. Made (start_made name.now place bound running.old) halted running.new) }
+    ensures puts { Puts result (bytes_of (start_made name.now place bound running.old).lines) (O.written out.old) (O.faults out.old) (O.written out.new) (O.faults out.new) }
 {
     match startable(running, place) {
         Some(image) => run_image(alloc, name, bound, image, running, out),
@@ -264,10 +232,8 @@ fn make_step<O: Sink>(
 ) -> Result<bool, Stop>
     requires known { IsStep script.now.image step.now }
     requires many { length inputs.now.images ≡ length script.now.image }
-    ensures ok { IfOk result (λ halted. Made (step_made script.now inputs.now step.now running.old) halted running.new (O.written out.old) (O.written out.new)) }
-    ensures part { OnErr result (GrownByPart (O.written out.old) (bytes_of (step_made script.now inputs.now step.now running.old).lines) (O.written out.new)) }
-    ensures cause { result ≡ Err Stop.Write → Rose (O.faults out.old) (O.faults out.new) }
-    ensures never_falls { O.faults out.old ≤ O.faults out.new }
+    ensures made { IfOk result (λ halted. Made (step_made script.now inputs.now step.now running.old) halted running.new) }
+    ensures puts { Puts result (bytes_of (step_made script.now inputs.now step.now running.old).lines) (O.written out.old) (O.faults out.old) (O.written out.new) (O.faults out.new) }
 {
     match step {
         Step::Load { image } => {
@@ -302,10 +268,8 @@ fn run_steps<O: Sink>(
 ) -> Result<bool, Stop>
     requires forms { IsScript script.now }
     requires many { length inputs.now.images ≡ length script.now.image }
-    ensures ok { IfOk result (λ halted. Ran (run_of script.now inputs.now) halted (O.written out.old) (O.written out.new)) }
-    ensures part { OnErr result (GrownByPart (O.written out.old) (bytes_of (run_of script.now inputs.now).lines) (O.written out.new)) }
-    ensures cause { result ≡ Err Stop.Write → Rose (O.faults out.old) (O.faults out.new) }
-    ensures never_falls { O.faults out.old ≤ O.faults out.new }
+    ensures halted { IfOk result (λ halted. halted ≡ (run_of script.now inputs.now).halted) }
+    ensures puts { Puts result (bytes_of (run_of script.now inputs.now).lines) (O.written out.old) (O.faults out.old) (O.written out.new) (O.faults out.new) }
 {
     let mut running = match open(alloc, script.ram_base) {
         Ok(running) => running,
@@ -343,10 +307,7 @@ pub enum Outcome {
 pub fn run_script<O: Sink>(alloc: Global, script: &Script, inputs: &Inputs, out: &mut O) -> Outcome
     requires forms { IsScript script.now }
     requires many { length inputs.now.images ≡ length script.now.image }
-    ensures done { result ≡ Outcome.Done → Ran (run_of script.now inputs.now) false (O.written out.old) (O.written out.new) }
-    ensures halted { result ≡ Outcome.Halted → Ran (run_of script.now inputs.now) true (O.written out.old) (O.written out.new) }
-    ensures part { GrownByPart (O.written out.old) (bytes_of (run_of script.now inputs.now).lines) (O.written out.new) }
-    ensures write { result ≡ Outcome.Write → Rose (O.faults out.old) (O.faults out.new) }
+    ensures { RunGives (run_of script.now inputs.now) result (O.written out.old) (O.faults out.old) (O.written out.new) (O.faults out.new) }
 {
     match run_steps(alloc, script, inputs, out) {
         Ok(true) => Outcome::Halted,

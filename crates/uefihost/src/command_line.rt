@@ -1,7 +1,7 @@
 //! The words of the command line, and what the program answers to them.
 ghost use Rattle.std.specs.Prelude.{◌≡◌, ◌≢◌, [], IfOk, IfErr, OnErr, map, string_bytes};
 ghost use Rattle.std.specs.IoError.{error_kind};
-ghost use Rattle.host_engine.specs.Gives.{HostGives, ErrGives};
+ghost use Rattle.host_engine.specs.Gives.{HostDoes, ErrGives};
 ghost use Rattle.host_engine.specs.Outside.{outside};
 ghost use Rattle.host_engine.specs.Words.{command_of};
 
@@ -43,7 +43,7 @@ pub fn answer<F: Files, O: Sink, E: Sink>(
     out: &mut O,
     err: &mut E,
 ) -> Status
-    ensures had { IfOk words (λ words. HostGives (command_of (map string_bytes words.items)) result
+    ensures had { IfOk words (λ words. HostDoes (command_of (map string_bytes words.items)) result
         (outside (F.told files.old) (F.faults files.old) (F.longs files.old) (O.written out.old) (O.faults out.old))
         (outside (F.told files.new) (F.faults files.new) (F.longs files.new) (O.written out.new) (O.faults out.new))
         (E.written err.old) (E.faults err.old) (E.written err.new) (E.faults err.new)) }

@@ -18,7 +18,7 @@ no_text file h =
     ]
 
 pub returns-in-Ok : goal.returns-in-Ok
-returns-in-Ok c = rw (sym (is_text c.args.file.now c.in-Ok.text.now c.in-Ok.ensures.cases.0 c.in-Ok.ensures.cases.1)) c.assembly.ensures
+returns-in-Ok c = rw (sym (is_text c.args.file.now c.in-Ok.text.now c.in-Ok.ensures.cases.0 c.in-Ok.ensures.cases.1)) c.assembly.ensures.gives
 
 pub returns-in-Err : goal.returns-in-Err
 returns-in-Err c = rw (sym (no_text c.args.file.now c.in-Err.ensures.cases.0)) c.refused.ensures

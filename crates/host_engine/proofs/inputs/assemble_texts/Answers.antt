@@ -19,21 +19,21 @@ loop-code-preserved c =
     let many = c.loop-code.invariant.many in
     let pushed = rw c.if-is_err.ensures.negation at c.push.ensures.items in
     let long : length c.push.new.self.items ≡ length c.loop-code.images.items + 1 = ap length pushed ∙ length-append c.loop-code.images.items (c.in-Ok.image ∷ []) in record {
-      so_far = made_more c.args.codes.items (map (λ image. image.items) c.loop-code.images.items) _ (into_iter_items c.next.new.self) c.in-Some.code c.in-Ok.image.items
-          (subst (λ (rest : List Code). Making c.args.codes.items (map (λ image. image.items) c.loop-code.images.items) rest) steps.0 c.loop-code.invariant.so_far) c.in-Ok.ensures (ap (map (λ image. image.items)) pushed ∙ map-append (λ image. image.items) c.loop-code.images.items (c.in-Ok.image ∷ []));
+      so_far = made_more c.args.codes.items (map (λ image. image.bytes.items) c.loop-code.images.items) _ (into_iter_items c.next.new.self) c.in-Some.code c.in-Ok.image.bytes.items
+          (subst (λ (rest : List Code). Making c.args.codes.items (map (λ image. image.bytes.items) c.loop-code.images.items) rest) steps.0 c.loop-code.invariant.so_far) c.in-Ok.ensures (ap (map (λ image. image.bytes.items)) pushed ∙ map-append (λ image. image.bytes.items) c.loop-code.images.items (c.in-Ok.image ∷ []));
       left = omega (arith, steps.1, left, ap length steps.0);
       many = omega (arith, many, ap length steps.0, long);
     }
 
 pub returns-in-Err-clause-gives : goal.returns-in-Err-clause-gives
 returns-in-Err-clause-gives c =
-    not_made c.in-Err.why c.args.codes.items (map (λ image. image.items) c.loop-code.images.items) (into_iter_items c.next.new.self) c.in-Some.code
-    (subst (λ (rest : List Code). Making c.args.codes.items (map (λ image. image.items) c.loop-code.images.items) rest) c.in-Some.ensures.steps.0 c.loop-code.invariant.so_far) c.in-Err.ensures
+    not_made c.in-Err.why c.args.codes.items (map (λ image. image.bytes.items) c.loop-code.images.items) (into_iter_items c.next.new.self) c.in-Some.code
+    (subst (λ (rest : List Code). Making c.args.codes.items (map (λ image. image.bytes.items) c.loop-code.images.items) rest) c.in-Some.ensures.steps.0 c.loop-code.invariant.so_far) c.in-Err.ensures
 
 pub returns-clause-gives : goal.returns-clause-gives
 returns-clause-gives c =
     let none : length (into_iter_items c.loop-code.code-iterator) ≡ 0 = sym c.loop-code.invariant.left ∙ c.in-None.ensures.steps.0 in
-    all_there c.args.codes.items (map (λ image. image.items) c.loop-code.images.items) (subst (λ (rest : List Code). Making c.args.codes.items (map (λ image. image.items) c.loop-code.images.items) rest) (nil_from_length (into_iter_items c.loop-code.code-iterator) none) c.loop-code.invariant.so_far)
+    all_there c.args.codes.items (map (λ image. image.bytes.items) c.loop-code.images.items) (subst (λ (rest : List Code). Making c.args.codes.items (map (λ image. image.bytes.items) c.loop-code.images.items) rest) (nil_from_length (into_iter_items c.loop-code.code-iterator) none) c.loop-code.invariant.so_far)
 
 pub returns-clause-many : goal.returns-clause-many
 returns-clause-many c =

@@ -10,13 +10,13 @@ pub returns-in-Err-inputs_of : goal.returns-in-Err-inputs_of
 returns-in-Err-inputs_of g c = refused_past _ _ c.in-Err-inputs_of.refusal _ _ _ _ _ _ _ _ c.in-Ok.ensures.onward c.in-Ok.ensures.had c.in-Err-inputs_of.ensures.refused _ _ _
 
 pub returns-in-Done : goal.returns-in-Done
-returns-in-Done g c = ran_whole _ _ _ _ _ _ _ _ _ _ _ _ (run_leads _ _ _ _ _ _ _ _ _ c.in-Ok.ensures.onward c.in-Ok.ensures.had c.in-Ok-inputs_of.ensures.had) false (c.run_script.ensures.done c.in-Done.is)
+returns-in-Done g c = ran_whole _ _ _ _ _ _ _ _ _ _ _ _ (run_leads _ _ _ _ _ _ _ _ _ c.in-Ok.ensures.onward c.in-Ok.ensures.had c.in-Ok-inputs_of.ensures.had) false c.in-Done.ensures
 
 pub returns-in-Halted : goal.returns-in-Halted
-returns-in-Halted g c = ran_whole _ _ _ _ _ _ _ _ _ _ _ _ (run_leads _ _ _ _ _ _ _ _ _ c.in-Ok.ensures.onward c.in-Ok.ensures.had c.in-Ok-inputs_of.ensures.had) true (c.run_script.ensures.halted c.in-Halted.is)
+returns-in-Halted g c = ran_whole _ _ _ _ _ _ _ _ _ _ _ _ (run_leads _ _ _ _ _ _ _ _ _ c.in-Ok.ensures.onward c.in-Ok.ensures.had c.in-Ok-inputs_of.ensures.had) true c.in-Halted.ensures
 
 pub returns-in-Write : goal.returns-in-Write
-returns-in-Write g c = (c.run_script.ensures.write c.in-Write.is, (_, ran_part _ _ _ _ _ _ _ _ _ _ _ _ (run_leads _ _ _ _ _ _ _ _ _ c.in-Ok.ensures.onward c.in-Ok.ensures.had c.in-Ok-inputs_of.ensures.had) c.run_script.ensures.part))
+returns-in-Write g c = (c.in-Write.ensures.0, (_, ran_part _ _ _ _ _ _ _ _ _ _ _ _ (run_leads _ _ _ _ _ _ _ _ _ c.in-Ok.ensures.onward c.in-Ok.ensures.had c.in-Ok-inputs_of.ensures.had) c.in-Write.ensures.1))
 
 pub returns : goal.returns
-returns g c = (tt, inr (ran_part _ _ _ _ _ _ _ _ _ _ _ _ (run_leads _ _ _ _ _ _ _ _ _ c.in-Ok.ensures.onward c.in-Ok.ensures.had c.in-Ok-inputs_of.ensures.had) c.run_script.ensures.part))
+returns g c = (tt, inr (ran_part _ _ _ _ _ _ _ _ _ _ _ _ (run_leads _ _ _ _ _ _ _ _ _ c.in-Ok.ensures.onward c.in-Ok.ensures.had c.in-Ok-inputs_of.ensures.had) c.in-Memory.ensures))

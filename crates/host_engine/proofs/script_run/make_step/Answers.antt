@@ -5,5 +5,5 @@ use Rattle.host_engine.proofs.script_run.make_step.Goals as goal
 
 pub file_at-file-requires : goal.file_at-file-requires
 file_at-file-requires g c =
-    is_handed (λ file. file.items) c.as_slice.result.now c.args.script.now.image c.as_str.result.now c.place_of-place.result c.inputs.inside.images.items c.as_slice-in-Load.result.now c.args.inputs.now (rw c.as_str.ensures (rw c.in-Load.is at c.requires.known)) c.place_of-place.ensures
+    is_handed (λ file. file.bytes.items) c.as_slice.result.now c.args.script.now.image c.as_str.result.now c.place_of-place.result c.inputs.inside.images.items c.as_slice-in-Load.result.now c.args.inputs.now (rw c.as_str.ensures (rw c.in-Load.is at c.requires.known)) c.place_of-place.ensures
     (c.as_slice.ensures.value ∙ ap (λ (s : Plain). s.image) c.script.view_is) c.as_slice-in-Load.ensures.value c.inputs.view_is c.requires.many

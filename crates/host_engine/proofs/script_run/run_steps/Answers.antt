@@ -3,6 +3,7 @@ use Rattle.host_script.specs.Forms.{AreSteps}
 use Rattle.host_script.specs.Plain.{Plain}
 use Rattle.host_engine.specs.ScriptRuns.{run_of}
 use Rattle.host_engine.proofs.PlaceLemmas.{step_at}
+use Rattle.host_engine.proofs.PutLemmas.{went, stopped}
 use Rattle.host_engine.proofs.StepLemmas.{opens, goes_on, halts_here, stops_here, ends, stops_at_end}
 use Rattle.host_engine.proofs.script_run.run_steps.Goals as goal
 
@@ -14,21 +15,35 @@ loop-step-init g c = record {
 
 pub loop-step-preserved : goal.loop-step-preserved
 loop-step-preserved g c = record {
-  so_far = goes_on c.args.script.now c.args.inputs.now (run_of c.args.script.now c.args.inputs.now) c.as_slice-steps.result.now c.loop-step.step-index c.step-item.result c.loop-step.running _ _ (g.O.Sink.written c.make_step.new.out) c.loop-step-test.true c.step-item.is c.loop-step.invariant.so_far c.make_step.new.running (rw c.in-Ok-false.field-0-test at c.in-Ok-false.ensures.ok);
-  never = omega (arith, c.in-Ok-false.ensures.never_falls);
+  so_far = goes_on c.args.script.now c.args.inputs.now (run_of c.args.script.now c.args.inputs.now) c.as_slice-steps.result.now c.loop-step.step-index c.step-item.result c.loop-step.running _ _ (g.O.Sink.written c.make_step.new.out) c.loop-step-test.true c.step-item.is c.loop-step.invariant.so_far c.make_step.new.running (rw c.in-Ok-false.field-0-test at c.in-Ok-false.ensures.made) c.in-Ok-false.ensures.puts.whole;
+  never = omega (arith, c.in-Ok-false.ensures.puts.never_falls);
 }
 
-pub returns-in-Ok-true-clause-ok : goal.returns-in-Ok-true-clause-ok
-returns-in-Ok-true-clause-ok g c = halts_here c.args.script.now c.args.inputs.now (run_of c.args.script.now c.args.inputs.now) c.as_slice-steps.result.now c.loop-step.step-index c.step-item.result c.loop-step.running _ _ (g.O.Sink.written c.make_step.new.out) c.loop-step-test.true c.step-item.is c.loop-step.invariant.so_far c.make_step.new.running (rw c.in-Ok-true.field-0-test at c.in-Ok-true.ensures.ok)
+pub returns-in-Ok-true-clause-halted : goal.returns-in-Ok-true-clause-halted
+returns-in-Ok-true-clause-halted g c = (halts_here c.args.script.now c.args.inputs.now (run_of c.args.script.now c.args.inputs.now) c.as_slice-steps.result.now c.loop-step.step-index c.step-item.result c.loop-step.running _ _ (g.O.Sink.written c.make_step.new.out) c.loop-step-test.true c.step-item.is c.loop-step.invariant.so_far c.make_step.new.running (rw c.in-Ok-true.field-0-test at c.in-Ok-true.ensures.made) c.in-Ok-true.ensures.puts.whole).is_halted
 
-pub returns-in-Err-make_step-clause-part : goal.returns-in-Err-make_step-clause-part
-returns-in-Err-make_step-clause-part g c = stops_here c.args.script.now c.args.inputs.now (run_of c.args.script.now c.args.inputs.now) c.as_slice-steps.result.now c.loop-step.step-index c.step-item.result c.loop-step.running _ _ (g.O.Sink.written c.make_step.new.out) c.loop-step-test.true c.step-item.is c.loop-step.invariant.so_far c.in-Err-make_step.ensures.part
+pub returns-in-Ok-true-clause-puts : goal.returns-in-Ok-true-clause-puts
+returns-in-Ok-true-clause-puts g c =
+    went _ _ _ _ _ _ (halts_here c.args.script.now c.args.inputs.now (run_of c.args.script.now c.args.inputs.now) c.as_slice-steps.result.now c.loop-step.step-index c.step-item.result c.loop-step.running _ _ (g.O.Sink.written c.make_step.new.out) c.loop-step-test.true c.step-item.is c.loop-step.invariant.so_far c.make_step.new.running (rw c.in-Ok-true.field-0-test at c.in-Ok-true.ensures.made) c.in-Ok-true.ensures.puts.whole).put
+    (omega (arith, c.loop-step.invariant.never, c.in-Ok-true.ensures.puts.never_falls))
 
-pub returns-in-Ok-put_line-clause-ok : goal.returns-in-Ok-put_line-clause-ok
-returns-in-Ok-put_line-clause-ok g c = ends c.args.script.now c.args.inputs.now (run_of c.args.script.now c.args.inputs.now) c.as_slice-steps.result.now c.loop-step.step-index c.loop-step.running _ _ (g.O.Sink.written c.put_line.new.out) (omega arith) c.loop-step.invariant.so_far c.in-Ok-put_line.ensures.ok
+pub returns-in-Err-make_step-clause-puts : goal.returns-in-Err-make_step-clause-puts
+returns-in-Err-make_step-clause-puts g c =
+    stopped _ _ c.in-Err-make_step.stop _ _ _ _ _ _ _ _ c.loop-step.invariant.never c.in-Err-make_step.ensures.puts
+    (stops_here c.args.script.now c.args.inputs.now (run_of c.args.script.now c.args.inputs.now) c.as_slice-steps.result.now c.loop-step.step-index c.step-item.result c.loop-step.running _ _ (g.O.Sink.written c.make_step.new.out) c.loop-step-test.true c.step-item.is c.loop-step.invariant.so_far c.in-Err-make_step.ensures.puts.part)
 
-pub returns-clause-part : goal.returns-clause-part
-returns-clause-part g c = stops_at_end c.args.script.now c.args.inputs.now (run_of c.args.script.now c.args.inputs.now) c.as_slice-steps.result.now c.loop-step.step-index c.loop-step.running _ _ (g.O.Sink.written c.put_line.new.out) (omega arith) c.loop-step.invariant.so_far c.in-Err-put_line.ensures.part
+pub returns-in-Ok-put_line-clause-halted : goal.returns-in-Ok-put_line-clause-halted
+returns-in-Ok-put_line-clause-halted g c = (ends c.args.script.now c.args.inputs.now (run_of c.args.script.now c.args.inputs.now) c.as_slice-steps.result.now c.loop-step.step-index c.loop-step.running _ _ (g.O.Sink.written c.put_line.new.out) (omega arith) c.loop-step.invariant.so_far c.in-Ok-put_line.ensures.whole).is_halted
+
+pub returns-in-Ok-put_line-clause-puts : goal.returns-in-Ok-put_line-clause-puts
+returns-in-Ok-put_line-clause-puts g c =
+    went _ _ _ _ _ _ (ends c.args.script.now c.args.inputs.now (run_of c.args.script.now c.args.inputs.now) c.as_slice-steps.result.now c.loop-step.step-index c.loop-step.running _ _ (g.O.Sink.written c.put_line.new.out) (omega arith) c.loop-step.invariant.so_far c.in-Ok-put_line.ensures.whole).put
+    (omega (arith, c.loop-step.invariant.never, c.in-Ok-put_line.ensures.never_falls))
+
+pub returns-clause-puts : goal.returns-clause-puts
+returns-clause-puts g c =
+    stopped _ _ c.in-Err-put_line.stop _ _ _ _ _ _ _ _ c.loop-step.invariant.never c.in-Err-put_line.ensures
+    (stops_at_end c.args.script.now c.args.inputs.now (run_of c.args.script.now c.args.inputs.now) c.as_slice-steps.result.now c.loop-step.step-index c.loop-step.running _ _ (g.O.Sink.written c.put_line.new.out) (omega arith) c.loop-step.invariant.so_far c.in-Err-put_line.ensures.part)
 
 pub make_step-requires-clause-known : goal.make_step-requires-clause-known
 make_step-requires-clause-known g c =
