@@ -16,9 +16,12 @@ clear-requires c =
     omega arith
 
 pub invariant_of-self : goal.invariant_of-self
-invariant_of-self c = (record {
+invariant_of-self c = (
+  record {
     layout = c.self.invariant.0.layout;
     base = c.clear.ensures.base ∙ c.self.invariant.0.base;
     pages = c.clear.ensures.pages ∙ c.self.invariant.0.pages;
     image = tt;
-  }, c.none-self-inside.ensures _ _)
+  },
+  c.none-self-inside.ensures _ _,
+)

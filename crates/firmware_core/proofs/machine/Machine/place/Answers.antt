@@ -40,26 +40,34 @@ invariant_of-self-2 c =
     let l = lies _ _ _ _ (sym c.self.view_is) c.requires.lies in
     let low = l.low in
     let high : c.args.plan.now.base + 4096 * ((c.args.plan.now.image.size + 4095) / 4096 * 4096 / 4096) ≤ c.self.inside.layout.os_stack = l.high in
-    let same = c.from.ensures in
-    (record {
-      layout = c.self.invariant.0.layout;
-      base = c.set_image_rights.ensures.base ∙ c.write_pages.ensures.base ∙ c.self.invariant.0.base;
-      pages = c.set_image_rights.ensures.pages ∙ c.write_pages.ensures.pages ∙ c.self.invariant.0.pages;
-      image = record { low = low; high = omega arith };
-    }, c.none-self-inside.ensures _ _)
+    let same = c.from.ensures in (
+      record {
+        layout = c.self.invariant.0.layout;
+        base = c.set_image_rights.ensures.base ∙ c.write_pages.ensures.base ∙ c.self.invariant.0.base;
+        pages = c.set_image_rights.ensures.pages ∙ c.write_pages.ensures.pages ∙ c.self.invariant.0.pages;
+        image = record { low = low; high = omega arith };
+      },
+      c.none-self-inside.ensures _ _,
+    )
 
 pub invariant_of-self : goal.invariant_of-self
-invariant_of-self c = (record {
+invariant_of-self c = (
+  record {
     layout = c.self.invariant.0.layout;
     base = c.write_pages.ensures.base ∙ c.self.invariant.0.base;
     pages = c.write_pages.ensures.pages ∙ c.self.invariant.0.pages;
     image = c.self.invariant.0.image;
-  }, c.none-self-inside.ensures _ _)
+  },
+  c.none-self-inside.ensures _ _,
+)
 
 pub invariant_of-self-in-Err-Memory : goal.invariant_of-self-in-Err-Memory
-invariant_of-self-in-Err-Memory c = (record {
+invariant_of-self-in-Err-Memory c = (
+  record {
     layout = c.self.invariant.0.layout;
     base = c.write_pages.ensures.base ∙ c.self.invariant.0.base;
     pages = c.write_pages.ensures.pages ∙ c.self.invariant.0.pages;
     image = c.self.invariant.0.image;
-  }, c.none-self-inside.ensures _ _)
+  },
+  c.none-self-inside.ensures _ _,
+)
