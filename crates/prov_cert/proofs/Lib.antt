@@ -2,3 +2,4 @@ pub mod WordLemmas
 pub mod Views
 pub mod Loops
 pub mod PartLemmas
+pub mod KeptLemmas

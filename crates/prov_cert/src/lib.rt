@@ -4,6 +4,7 @@
 mod cert;
 mod fault;
 mod forms;
+mod laws;
 mod lists;
 mod parts;
 mod reading;
@@ -13,4 +14,5 @@ mod words;
 
 pub use cert::{Cert, CertEntry, CertSpan, Class, Node, OwnRegion, RegKind, StackPart};
 pub use fault::{CertFault, Part};
+pub use laws::certs_keep_forms;
 pub use reading::read_cert;

@@ -1,0 +1,10 @@
+//! Laws of certificates.
+ghost use Rattle.prov_cert.specs.Kept.{CertsKeepForms};
+
+/// A law: a certificate that is read has no more items than it may have; its numbers have 64 bits; its spans lead by
+/// whole steps from the low end to the high one; each register is named once a node, each part of a stack lies at a
+/// multiple of its width and meets no other; and every region, node and cell that it names is there, the cell of an own
+/// region in a region of a lower number.
+pub fn certs_keep_forms()
+    ensures { CertsKeepForms }
+{}
