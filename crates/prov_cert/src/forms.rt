@@ -186,6 +186,7 @@ pub(crate) fn region_of(number: u8, text: &str) -> Option<OwnRegion>
     })
 }
 
+/// Whether a number of bytes is 1, 2, 4 or 8.
 pub(crate) fn is_width(n: u64) -> bool
     ensures { result ≡ is_width n }
 {
