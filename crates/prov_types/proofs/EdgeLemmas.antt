@@ -72,7 +72,7 @@ equal_left s t v w proper p q h = by (t.lo == t.hi) refl
     by false e = record { span = s; is = refl; within = p }
 
 -- one step further from an end
-without_left : (s : Span) (v x : ℕ) → IsProper s → InSpan s v → v ≢ x → Left (without_end s x) v
+pub without_left : (s : Span) (v x : ℕ) → IsProper s → InSpan s v → v ≢ x → Left (without_end s x) v
 unfolding without_end
 without_left s v x proper p h = by (s.lo == s.hi) (s.lo == x) (s.hi == x) (s.lo + s.by == s.hi) refl refl refl refl
   where

@@ -6,3 +6,4 @@ pub mod EdgeLemmas
 pub mod AskLemmas
 pub mod TestLemmas
 pub mod ProperLemmas
+pub mod LeftLemmas

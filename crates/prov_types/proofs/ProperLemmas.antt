@@ -29,16 +29,16 @@ from_low lo hi step p = by (step == 0) refl p
         let gap : hi - lo ≡ 0 + step * p.down = omega (arith, a, mul_comm step p.down) in
         record { steps = large; order = omega (arith, a); whole = ap (λ n. n % step) gap ∙ add-mul-mod_self_left 0 step p.down ∙ zero_mod step large }
 
-low_in : (s : Span) → IsProper s → InSpan s s.lo
+pub low_in : (s : Span) → IsProper s → InSpan s s.lo
 low_in s p = let z = p.order in one_sided s s.lo 0 p (omega arith) z
 
-high_in : (s : Span) → IsProper s → InSpan s s.hi
+pub high_in : (s : Span) → IsProper s → InSpan s s.hi
 high_in s p = let k = low_in s p in let a = k.to_hi in record { up = k.down; down = 0; from_lo = sym a; to_hi = omega arith }
 
 by_ones : (lo hi : ℕ) → lo ≤ hi → IsProper (spanning lo hi 1)
 by_ones lo hi h = record { steps = omega arith; order = h; whole = omega arith }
 
-one_proper : (v : ℕ) → IsProper (one v)
+pub one_proper : (v : ℕ) → IsProper (one v)
 one_proper v = record { steps = omega arith; order = omega arith; whole = omega arith }
 
 whole_proper : IsProper whole
@@ -86,7 +86,7 @@ pointer_proper lens r (Some u) f = by (nat_lt (length_of lens r) u.hi)
     by true = tt
     by false = f u refl
 
-either : (c : Bool) (a b : Kind) → IsProperKind a → IsProperKind b → IsProperKind (if c then a else b)
+pub either : (c : Bool) (a b : Kind) → IsProperKind a → IsProperKind b → IsProperKind (if c then a else b)
 either true a b p q = p
 either false a b p q = q
 

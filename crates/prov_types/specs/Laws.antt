@@ -1,5 +1,5 @@
 -- The laws about two runs.
-use Rattle.std.specs.Prelude.{ℕ, ◌≡◌, ◌+◌, ◌≤◌, true, List, slice_index, FitsSigned}
+use Rattle.std.specs.Prelude.{ℕ, ◌≡◌, ◌+◌, ◌≤◌, Bool, true, List, slice_index, Option, Some, None, FitsSigned}
 use Rattle.std.specs.Int.{w64}
 use Rattle.rv_decode.specs.declared.insn.Insn.{Insn}
 use Rattle.rv_step.specs.Asks.{asks, compares}
@@ -67,3 +67,12 @@ ComparesAlike = (g : Regions) (insn : Insn) (a b : Kind) (v v' w w' : ℕ) → A
 abbrev pub NarrowIsSound : Type 0
 NarrowIsSound = (g : Regions) (insn : Insn) (a b : Kind) (v v' w w' : ℕ) → AreApart g → IsProperKind a → IsProperKind b
     → may_compare insn.op a b ≡ true → Holds g a v v' → Holds g b w w' → BothHold g v v' w w' (narrow insn (compares insn.op v w) a b)
+
+-- kinds with proper spans, where there are kinds
+abbrev pub AreProper : Option (Kind × Kind) → Type 0
+AreProper None = Unit {0}
+AreProper (Some (a, b)) = IsProperKind a × IsProperKind b
+
+-- What narrowing leaves of kinds with proper spans has proper spans.
+abbrev pub NarrowIsProper : Type 0
+NarrowIsProper = (insn : Insn) (went : Bool) (a b : Kind) → IsProperKind a → IsProperKind b → AreProper (narrow insn went a b)

@@ -1,7 +1,7 @@
 //! The laws about two runs.
 #![tactic(auto)]
 
-ghost use Rattle.prov_types.specs.Laws.{FitsIsSound, FitsIsReflexive, FitsIsTransitive, TransferIsProper, TransferIsSound, AsksHold, ComparesAlike, NarrowIsSound};
+ghost use Rattle.prov_types.specs.Laws.{FitsIsSound, FitsIsReflexive, FitsIsTransitive, TransferIsProper, TransferIsSound, AsksHold, ComparesAlike, NarrowIsSound, NarrowIsProper};
 
 use rv_step::asks_fit;
 
@@ -43,4 +43,9 @@ pub fn branches_compare_alike()
 /// On the edge that both runs take, the values are of the narrowed kinds.
 pub fn narrow_is_sound()
     ensures { NarrowIsSound }
+{}
+
+/// What narrowing leaves of kinds with proper spans has proper spans.
+pub fn narrow_is_proper()
+    ensures { NarrowIsProper }
 {}
