@@ -1,5 +1,5 @@
 -- What branches leave of proper spans is proper.
-use Rattle.std.proofs.Common.{◌≡◌, ℕ, ◌≤◌, ◌<◌, ◌+◌, ◌-◌, ◌%◌, ◌*◌, ◌/◌, arith, Bool, true, false, refl, sym, ◌∙◌, ap, subst, Option, Some, None}
+use Rattle.std.proofs.Common.{◌≡◌, ℕ, ◌≤◌, ◌<◌, ◌+◌, ◌-◌, ◌%◌, ◌*◌, ◌/◌, arith, Bool, true, false, refl, ◌∙◌, ap, subst, Option, Some, None}
 use Rattle.std.specs.Prelude.{◌==◌, ◌&&◌, ◌≢◌, not, if◌then◌else◌, nat_lt}
 use Rattle.std.proofs.lemmas.Bool.Decides.{nat_tests}
 use Rattle.std.proofs.Math.Nat.{add-mul-mod_self_left, mul_comm}
@@ -15,7 +15,7 @@ use Rattle.prov_types.specs.Fits.{is_null}
 use Rattle.prov_types.specs.Narrow.{capped, floored, without_end, only, below_some, above_some, equal_some, unlike_some, pair_of, said_by, narrow_numbers, narrow_pointers, says_equal, against_null, is_equality, narrow_between, narrow}
 use Rattle.prov_types.specs.Laws.{AreProper, NarrowIsProper}
 use Rattle.prov_types.proofs.BoundLemmas.{caps, floors, zero_mod}
-use Rattle.prov_types.proofs.EdgeLemmas.{Left, without_left}
+use Rattle.prov_types.proofs.EdgeLemmas.{without_left}
 use Rattle.prov_types.proofs.ProperLemmas.{low_in, high_in, one_proper, either}
 
 -- a span with a step that has a number
