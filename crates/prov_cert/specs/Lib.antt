@@ -5,3 +5,5 @@ pub mod Faults
 pub mod Reading
 pub mod Seen
 pub mod Kept
+pub mod Texts
+pub mod Back

@@ -8,7 +8,7 @@ use crate::words::{is_blank, next_number, next_word, one_number};
 use prov_types::{Kind, Span};
 
 /// The names of x0 to x31. (RISC-V unprivileged manual, version 20191213, table 25.1)
-static NAMES: [&str; 32] = [
+pub(crate) static NAMES: [&str; 32] = [
     "zero", "ra", "sp", "gp", "tp", "t0", "t1", "t2", "s0", "s1", "a0", "a1", "a2", "a3", "a4",
     "a5", "a6", "a7", "s2", "s3", "s4", "s5", "s6", "s7", "s8", "s9", "s10", "s11", "t3", "t4",
     "t5", "t6",

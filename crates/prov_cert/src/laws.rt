@@ -1,5 +1,8 @@
 //! Laws of certificates.
 ghost use Rattle.prov_cert.specs.Kept.{CertsKeepForms};
+ghost use Rattle.prov_cert.specs.Back.{KindsReadBack, RegionsReadBack, SpansReadBack, EntriesReadBack, NodesReadBack};
+
+use uh_base::decimals_read_back;
 
 /// A law: a certificate that is read has no more items than it may have; its numbers have 64 bits; its spans lead by
 /// whole steps from the low end to the high one; each register is named once a node, each part of a stack lies at a
@@ -8,3 +11,15 @@ ghost use Rattle.prov_cert.specs.Kept.{CertsKeepForms};
 pub fn certs_keep_forms()
     ensures { CertsKeepForms }
 {}
+
+/// A law: the text of a kind, of a region, of a span, of an entry and of a node, as `cert_text` writes it, is read as
+/// that item, where the item keeps its forms.
+pub fn items_read_back()
+    ensures kinds { KindsReadBack }
+    ensures regions { RegionsReadBack }
+    ensures spans { SpansReadBack }
+    ensures entries { EntriesReadBack }
+    ensures nodes { NodesReadBack }
+{
+    decimals_read_back();
+}

@@ -11,8 +11,10 @@ mod reading;
 #[cfg(test)]
 mod tests;
 mod words;
+mod writing;
 
 pub use cert::{Cert, CertEntry, CertSpan, Class, Node, OwnRegion, RegKind, StackPart};
 pub use fault::{CertFault, Part};
-pub use laws::certs_keep_forms;
+pub use laws::{certs_keep_forms, items_read_back};
 pub use reading::read_cert;
+pub use writing::cert_text;

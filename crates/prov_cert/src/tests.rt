@@ -1,5 +1,5 @@
 //! Certificates by hand from docs/certificate.md, and its worked one.
-use crate::{CertFault, Class, Part, read_cert};
+use crate::{CertFault, Class, Part, cert_text, read_cert};
 use prov_types::{Kind, Span};
 use std::alloc::Global;
 use std::process::Abort;
@@ -46,6 +46,63 @@ fn worked_certificate_is_read(rt: HostRuntime) -> Result<(), Fail> {
     assert!(rt; stack.len() == 1);
     let part = &stack[0];
     assert!(rt; part.at == 65528 && part.width == 8);
+    Ok(())
+}
+
+/// Certificates, each with its text: the worked one, one of kinds in forms that aren't the shortest, and an empty one.
+static TEXTS: [(&str, &str); 3] = [
+    (
+        WORKED,
+        "regions = [\"0 8200 16384\"]
+spans = [\"0 4212 116 code\", \"0 8192 8 convert p 4 256\", \"0 8200 8 convert p 6 0\", \"0 8208 8 fixed\", \"6 0 8 plain\"]
+entries = [\"count 0; a0 n\"]
+notify = [3]
+nodes = [
+\"4212; ra p 3 0, sp p 1 65536, a0 n; ; 1; \",
+\"4216; ra p 3 0, sp p 1 65536, t0 p 0 8308, a0 n; ; 2; \",
+\"4256; ra p 3 0, sp p 1 65536, a0 n; ; ; \",
+\"4260; ra p 5 1072, sp p 1 65536; ; 4; \",
+\"4268; sp p 1 65520; 65528 8 p 5 1072; 5; \",
+\"4324; ra p 5 1072, sp p 1 65536; ; ; 0 1\",
+]
+",
+    ),
+    (
+        "nodes = ['0; zero any,t6 n 0 18446744073709551615 1 , a0 n 5 5 1;0 1 n 5 5 8, 8 2 p 2 0x10 16 1;0  0;']
+notify = [0, 0]
+entries = ['_ 0x0;']
+spans = [' 0 0 4 num n 0 0xff 5 ', '1 2 3 code', '0 8 8 convert o 0 0 64 8']
+regions = []
+",
+        "regions = []
+spans = [\"0 0 4 num n 0 255 5\", \"1 2 3 code\", \"0 8 8 convert o 0 0 64 8\"]
+entries = [\"_ 0; \"]
+notify = [0, 0]
+nodes = [
+\"0; zero any, t6 n, a0 c 5; 0 1 n 5 5 8, 8 2 p 2 16; 0 0; \",
+]
+",
+    ),
+    (
+        "regions = []\nspans = []\nentries = []\nnotify = []\nnodes = []\n",
+        "regions = []\nspans = []\nentries = []\nnotify = []\nnodes = []\n",
+    ),
+];
+
+#[test]
+fn certificates_have_their_texts(rt: HostRuntime) -> Result<(), Fail> {
+    let alloc = rt.alloc();
+    for (text, wanted) in &TEXTS {
+        for read in &[*text, *wanted] {
+            match read_cert(alloc, read.as_bytes()) {
+                Ok(cert) => {
+                    let written = cert_text(alloc, &cert)?;
+                    assert!(rt; written.as_str() == *wanted, "{}", written.as_str());
+                }
+                Err(fault) => panic!(rt; "{read}: {fault:?}"),
+            }
+        }
+    }
     Ok(())
 }
 
