@@ -1,0 +1,3 @@
+pub mod Ram
+pub mod PageServices
+pub mod Copies

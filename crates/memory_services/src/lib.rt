@@ -1,0 +1,9 @@
+//! The boot services on memory: each over the parts of a machine that it reads or changes.
+#![tactic(auto)]
+
+mod copy;
+mod output;
+mod page;
+
+pub use copy::{calculate_crc32, copy_mem, set_mem};
+pub use page::{allocate_pages, free_pages};
