@@ -10,9 +10,7 @@ ghost use Rattle.address_view.specs.Stored.{mark_seen, marked, lacks_seen, AllSe
 
 use address_view::View;
 use guest_memory::GuestMemory;
-
-/// The most pages that are touched at one time.
-const FRAMES: u64 = 65536;
+use uh_base::FRAME_LIMIT;
 
 /// The most pages that a memory has.
 const MOST_PAGES: usize = 1048576;
@@ -139,8 +137,8 @@ pub fn lacks_cleared(
     ensures { result ≡ lacks_seen (see view.now) (cleared memory.now page count) at len }
 {
     memory.whole();
-    if len <= FRAMES - u64::from(memory.touched()) {
+    if len <= u64::from(FRAME_LIMIT - memory.touched()) {
         return false;
     }
-    count_after(memory, view, page, count, at, len) > FRAMES
+    count_after(memory, view, page, count, at, len) > u64::from(FRAME_LIMIT)
 }

@@ -1,3 +1,4 @@
 pub mod PageLemmas
 pub mod MarkLemmas
 pub mod CopyLemmas
+pub mod MapLemmas

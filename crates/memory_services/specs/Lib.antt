@@ -1,3 +1,4 @@
 pub mod Ram
 pub mod PageServices
 pub mod Copies
+pub mod MapService

@@ -2,8 +2,10 @@
 #![tactic(auto)]
 
 mod copy;
+mod map;
 mod output;
 mod page;
 
 pub use copy::{calculate_crc32, copy_mem, set_mem};
+pub use map::get_memory_map;
 pub use page::{allocate_pages, free_pages};

@@ -46,7 +46,7 @@ pub(crate) fn clear_and_write(
     if lacks_cleared(memory, view, page, count as u32, at, 8) {
         return Ok(Answer::LacksFrames);
     }
-    memory.clear(page, count as u32);
+    clear(memory, start, count);
     put_output(memory, view, at, 8, start)?;
     Ok(Answer::Gives(EfiStatus::SUCCESS.0))
 }
