@@ -1,19 +1,18 @@
 -- The outputs of GetMemoryMap, one after another.
 use Rattle.std.proofs.Common.{◌≡◌, ◌≤◌, ℕ, zero, suc, Bool, true, false, List, [], ◌∷◌, ◌++◌, length, drop, append-nil, refl, sym, ap, ◌∙◌, arith}
 use Rattle.std.specs.Prelude.{Option, Some, None, is_none, ◌/◌, if◌then◌else◌}
-use Rattle.std.proofs.lemmas.List.Elements.{All-from_recursion}
 use Rattle.uh_base.specs.Bytes.{next, first_refused}
 use Rattle.uh_base.specs.LittleEndian.{low_bytes}
 use Rattle.guest_memory.specs.Pages.{Pages}
 use Rattle.memory_map.specs.Bytes.{descriptor_size}
 use Rattle.address_view.specs.declared.frames.ByteRange.{ByteRange}
 use Rattle.address_view.specs.Laws.{RangesSuffice}
-use Rattle.address_view.specs.Ranges.{RangesSeen, lacks_ranges}
-use Rattle.address_view.specs.Seen.{all_pass, is_seen}
+use Rattle.address_view.specs.Ranges.{lacks_ranges}
+use Rattle.address_view.specs.Seen.{all_pass}
 use Rattle.address_view.specs.Stored.{lacks_seen, stored}
 use Rattle.guest_call.specs.Outputs.{optional}
 use Rattle.memory_services.specs.declared.map.MapOutputs.{MapOutputs}
-use Rattle.memory_services.specs.MapService.{OutputsSeen, each_written, version_written, sizes_written, list_written, size_ranges, map_ranges, descriptor_version, SizesFit}
+use Rattle.memory_services.specs.MapService.{each_written, version_written, sizes_written, list_written, size_ranges, map_ranges, descriptor_version, SizesFit}
 
 drop_all : {X : Type 0} (xs : List X) → drop (length xs) xs ≡ []
 drop_all [] = refl
@@ -56,13 +55,6 @@ key_fits law see m o bytes e =
     let s = (sizes law see m o (length bytes) _ e).1 in
     let t = (step law see (sizes_written see m o (length bytes)) _ _ bytes refl s).1 in
     (law see (list_written see m o bytes) _ [] t).first
-
--- what is written is seen
-pub sizes_seen : (see : ℕ → Option ℕ) (m : Pages) (o : MapOutputs) → OutputsSeen see m o → RangesSeen see m (size_ranges o [])
-sizes_seen see m o s = All-from_recursion _ _ (s.each, s.version, s.size, tt)
-
-pub map_seen : (see : ℕ → Option ℕ) (m : Pages) (o : MapOutputs) (size : ℕ) → OutputsSeen see m o → all_pass (is_seen see m) o.buffer size ≡ true → RangesSeen see m (map_ranges o size)
-map_seen see m o size s b = All-from_recursion _ _ (s.each, s.version, s.size, b, s.key, tt)
 
 -- a range that passes a test has each shorter one pass
 unrefused : (b : Bool) (at : ℕ) (rest : Option ℕ) → is_none (if b then rest else Some at) ≡ true → (b ≡ true) × (is_none rest ≡ true)

@@ -106,7 +106,7 @@ fn write_sizes(
 }
 
 /// Tells the size that the buffer would need.
-#[tactic(auto, using(crate::proofs::MapLemmas::sizes_fit, crate::proofs::MapLemmas::sizes_seen))]
+#[tactic(auto, using(crate::proofs::MapLemmas::sizes_fit))]
 fn tell_size(
     memory: &mut GuestMemory,
     view: &View,
@@ -154,7 +154,7 @@ fn write_list(
 }
 
 /// Tells the map, and its key.
-#[tactic(auto, using(crate::proofs::MapLemmas::sizes_fit, crate::proofs::MapLemmas::map_seen, crate::proofs::MapLemmas::list_fits, crate::proofs::MapLemmas::key_fits))]
+#[tactic(auto, using(crate::proofs::MapLemmas::sizes_fit, crate::proofs::MapLemmas::list_fits, crate::proofs::MapLemmas::key_fits))]
 fn tell_map(
     memory: &mut GuestMemory,
     view: &View,
