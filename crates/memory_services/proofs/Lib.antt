@@ -2,3 +2,4 @@ pub mod PageLemmas
 pub mod MarkLemmas
 pub mod CopyLemmas
 pub mod MapLemmas
+pub mod BlockLemmas

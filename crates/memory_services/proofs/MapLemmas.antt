@@ -1,6 +1,6 @@
 -- The outputs of GetMemoryMap, one after another.
-use Rattle.std.proofs.Common.{◌≡◌, ◌≤◌, ℕ, zero, suc, Bool, true, false, List, [], ◌∷◌, ◌++◌, length, drop, append-nil, refl, sym, ap, ◌∙◌, arith}
-use Rattle.std.specs.Prelude.{Option, Some, None, is_none, ◌/◌, if◌then◌else◌}
+use Rattle.std.proofs.Common.{◌≡◌, ◌≤◌, ℕ, zero, suc, Bool, true, false, List, [], ◌∷◌, ◌++◌, length, drop, append-nil, refl, ap, ◌∙◌, arith}
+use Rattle.std.specs.Prelude.{Option, Some, is_none, ◌/◌, if◌then◌else◌}
 use Rattle.uh_base.specs.Bytes.{next, first_refused}
 use Rattle.uh_base.specs.LittleEndian.{low_bytes}
 use Rattle.guest_memory.specs.Pages.{Pages}

@@ -1,5 +1,5 @@
 -- Marks after a call that lacks memory.
-use Rattle.std.proofs.Common.{◌≡◌, refl}
+use Rattle.std.proofs.Common.{refl}
 use Rattle.guest_memory.specs.Pages.{Pages}
 use Rattle.guest_memory.specs.Changes.{TouchedBesides}
 

@@ -2,3 +2,4 @@ pub mod Ram
 pub mod PageServices
 pub mod Copies
 pub mod MapService
+pub mod PoolServices
