@@ -17,13 +17,13 @@ sub_mul : (n m k : ℕ) → (n - m) * k ≡ n * k - m * k
 sub_mul n m k = mul_comm (n - m) k ∙ mul-sub k n m ∙ (λ i. mul_comm k n i - mul_comm k m i)
 
 -- what `inside` says
-record Within (s t : Span) : Type 0 where
-  low : t.lo ≤ s.lo
-  high : s.hi ≤ t.hi
-  step : step_of s % t.by ≡ 0
-  first : (s.lo - t.lo) % t.by ≡ 0
+pub record Within (s t : Span) : Type 0 where
+  pub low : t.lo ≤ s.lo
+  pub high : s.hi ≤ t.hi
+  pub step : step_of s % t.by ≡ 0
+  pub first : (s.lo - t.lo) % t.by ≡ 0
 
-within : (s t : Span) → inside s t ≡ true → Within s t
+pub within : (s t : Span) → inside s t ≡ true → Within s t
 unfolding inside
 within s t h = by (nat_lt s.lo t.lo) (nat_lt t.hi s.hi) (step_of s % t.by == 0) ((s.lo - t.lo) % t.by == 0) refl refl refl refl h
   where
@@ -161,7 +161,7 @@ one_sided s v i proper at h =
     let ends : n * s.by ≡ s.hi - s.lo = omega (arith, en, proper.whole) in
     record { up = i; down = n - i; from_lo = at; to_hi = omega (arith, sub_mul n i s.by, ends, proper.order) }
 
-inside_is : (s t : Span) → Within s t → inside s t ≡ true
+pub inside_is : (s t : Span) → Within s t → inside s t ≡ true
 unfolding inside
 inside_is s t w =
     let a : nat_lt s.lo t.lo ≡ false = let h = w.low in grind (arith, nat_tests, h) in
@@ -181,7 +181,7 @@ step_whole s p = by (s.lo == s.hi)
     by true = zero_mod s.by p.steps
     by false = mod_self s.by
 
-inside_self : (s : Span) → IsProper s → inside s s ≡ true
+pub inside_self : (s : Span) → IsProper s → inside s s ≡ true
 inside_self s p = inside_is s s (record { low = omega arith; high = omega arith; step = step_whole s p; first = let z : s.lo - s.lo ≡ 0 = omega arith in ap (λ n. n % s.by) z ∙ zero_mod s.by p.steps })
 
 pub fits_reflexive : FitsIsReflexive

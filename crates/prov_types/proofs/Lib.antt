@@ -7,3 +7,4 @@ pub mod AskLemmas
 pub mod TestLemmas
 pub mod ProperLemmas
 pub mod LeftLemmas
+pub mod WiderLemmas

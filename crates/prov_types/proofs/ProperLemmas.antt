@@ -160,16 +160,16 @@ moved_span_proper s imm u p = by (int_lt imm (pos 0))
     by true e = difference_proper s (one (unsigned_abs imm)) u p (one_proper (unsigned_abs imm)) e
     by false e = sum_proper s (one (unsigned_abs imm)) u p (one_proper (unsigned_abs imm)) e
 
-word_proper : (a : Kind) (imm : ℤ) → IsProperKind a → IsProperKind (moved_word a imm)
+pub word_proper : (a : Kind) (imm : ℤ) → IsProperKind a → IsProperKind (moved_word a imm)
 unfolding moved_word
 word_proper (Num s) imm p = either (is_below_31_bits (moved_span s imm)) (number (moved_span s imm)) _ (number_proper (moved_span s imm) (λ u e. moved_span_proper s imm u p e))
     (either (s.lo == s.hi && (is_span (moved_span s imm) && nat_lt (extended (s.lo + bits_of imm)) (2 ^ 31))) (Num (one (extended (s.lo + bits_of imm)))) (Num whole) (one_proper (extended (s.lo + bits_of imm))) whole_proper)
 word_proper _ imm p = tt
 
-image_proper : (lens : List ℕ) (o : ℕ) → IsProperKind (image_kind lens o)
+pub image_proper : (lens : List ℕ) (o : ℕ) → IsProperKind (image_kind lens o)
 image_proper lens o = either (nat_lt (length_of lens 0) o) Any (Ptr 0 (one o)) tt (one_proper o)
 
-upper_proper : (lens : List ℕ) (imm : ℤ) (target : Option ℕ) → IsProperKind (upper_kind lens imm target)
+pub upper_proper : (lens : List ℕ) (imm : ℤ) (target : Option ℕ) → IsProperKind (upper_kind lens imm target)
 upper_proper lens imm None = one_proper (bits_of imm)
 upper_proper lens imm (Some target) = image_proper lens target
 

@@ -13,6 +13,13 @@ IsProperKind (Num s) = IsProper s
 IsProperKind (Ptr r s) = IsProper s
 IsProperKind (Opt r s) = IsProper s
 
+-- the numbers of a kind are of 64 bits
+abbrev pub EndsIn64Bits : Kind → Type 0
+EndsIn64Bits Any = Unit
+EndsIn64Bits (Num s) = s.hi < 2 ^ 64
+EndsIn64Bits (Ptr r s) = s.hi < 2 ^ 64
+EndsIn64Bits (Opt r s) = s.hi < 2 ^ 64
+
 -- the length of a region; one that isn't listed has length 0
 abbrev pub length_of : List ℕ → ℕ → ℕ
 length_of lens r = slice_index lens r

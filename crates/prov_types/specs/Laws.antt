@@ -7,7 +7,7 @@ use Rattle.uh_base.specs.Bytes.{plus}
 use Rattle.rv_step.specs.Numbers.{AreNumbers}
 use Rattle.prov_types.specs.declared.kinds.Kind.{Kind}
 use Rattle.prov_types.specs.declared.kinds.Place.{Place}
-use Rattle.prov_types.specs.Kinds.{Regions, AreApart, Holds, IsProperKind, length_of}
+use Rattle.prov_types.specs.Kinds.{Regions, AreApart, EndsIn64Bits, Holds, IsProperKind, length_of}
 use Rattle.prov_types.specs.Fits.{fits}
 use Rattle.prov_types.specs.Transfer.{transfer}
 use Rattle.prov_types.specs.Narrow.{narrow}
@@ -47,6 +47,12 @@ TransferIsSound = (g : Regions) (insn other : Insn) (place : Place) (a b : Kind)
 -- The transferred kind of kinds with proper spans has a proper span.
 abbrev pub TransferIsProper : Type 0
 TransferIsProper = (insn : Insn) (place : Place) (a b : Kind) (lens : List ℕ) → IsProperKind a → IsProperKind b → IsProperKind (transfer insn place a b lens)
+
+-- Kinds that fit those of the operands give a kind that fits the transferred one.
+abbrev pub TransferIsMonotone : Type 0
+TransferIsMonotone = (insn : Insn) (place : Place) (a b wide_a wide_b : Kind) (lens : List ℕ)
+    → IsProperKind a → IsProperKind b → IsProperKind wide_a → IsProperKind wide_b → EndsIn64Bits a
+    → fits a wide_a ≡ true → fits b wide_b ≡ true → fits (transfer insn place a b lens) (transfer insn place wide_a wide_b lens) ≡ true
 
 -- What the kinds of registers say of all that is asked: the register that is set, the address of a load or a store, the target of
 -- a jump, and that a branch goes one way in both runs.

@@ -1,7 +1,7 @@
 //! The laws about two runs.
 #![tactic(auto)]
 
-ghost use Rattle.prov_types.specs.Laws.{FitsIsSound, FitsIsReflexive, FitsIsTransitive, TransferIsProper, TransferIsSound, AsksHold, ComparesAlike, NarrowIsSound, NarrowIsProper};
+ghost use Rattle.prov_types.specs.Laws.{FitsIsSound, FitsIsReflexive, FitsIsTransitive, TransferIsMonotone, TransferIsProper, TransferIsSound, AsksHold, ComparesAlike, NarrowIsSound, NarrowIsProper};
 
 use rv_step::asks_fit;
 
@@ -26,6 +26,11 @@ pub fn transfer_is_sound()
 /// The transferred kind of kinds with proper spans has a proper span.
 pub fn transfer_is_proper()
     ensures { TransferIsProper }
+{}
+
+/// Kinds that fit those of the operands give a kind that fits the transferred one, for every instruction.
+pub fn transfer_is_monotone()
+    ensures { TransferIsMonotone }
 {}
 
 /// What the kinds of registers say of all that an instruction asks for.

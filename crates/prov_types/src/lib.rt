@@ -17,6 +17,6 @@ pub use holding::{RegionLists, holds, is_proper, test_is_exact};
 pub use kinds::{Kind, Place, Span};
 pub use laws::{
     asks_hold, branches_compare_alike, fits_is_a_preorder, fits_is_sound, narrow_is_proper,
-    narrow_is_sound, transfer_is_proper, transfer_is_sound,
+    narrow_is_sound, transfer_is_monotone, transfer_is_proper, transfer_is_sound,
 };
 pub use rules::transfer;
