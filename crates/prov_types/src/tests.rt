@@ -27,16 +27,8 @@ fn kind((letter, region, lo, hi, by): Row) -> Kind {
 }
 
 /// A name, its immediate, the kinds of rs1 and rs2, and the kind of the result, at the offset 0x1074 of the image.
-static TRANSFERS: [(Op, i64, Row, Row, Row); 51] = [
-    // the worked driver
-    (Op::Auipc, 0x1000, ANY, ANY, ('p', 0, 0x2074, 0x2074, 1)),
-    (
-        Op::Addi,
-        -100,
-        ('p', 0, 0x2074, 0x2074, 1),
-        ANY,
-        ('p', 0, 0x2010, 0x2010, 1),
-    ),
+static TRANSFERS: [(Op, i64, Row, Row, Row); 46] = [
+    // a load and a link
     (Op::Ld, 0, ('p', 0, 0x2010, 0x2010, 1), ANY, ANY),
     (
         Op::Jalr,
@@ -44,21 +36,6 @@ static TRANSFERS: [(Op, i64, Row, Row, Row); 51] = [
         ('p', 5, 784, 784, 1),
         ANY,
         ('p', 0, 0x1078, 0x1078, 1),
-    ),
-    (Op::Add, 0, NUMBER, NUMBER, NUMBER),
-    (
-        Op::Addi,
-        -16,
-        ('p', 1, 65536, 65536, 1),
-        ANY,
-        ('p', 1, 65520, 65520, 1),
-    ),
-    (
-        Op::Addi,
-        16,
-        ('p', 1, 65520, 65520, 1),
-        ANY,
-        ('p', 1, 65536, 65536, 1),
     ),
     // sums and differences: both ends of 64 bits, and the greatest common divisor of steps
     (
@@ -211,6 +188,130 @@ fn transfers_are_as_the_table_says(rt: HostRuntime) {
         &LENS,
     );
     assert!(rt; named == kind(('p', 0, 0x2000, 0x2000, 1)));
+}
+
+/// The nodes of the worked driver that set a register by its operands: the offset of each, its name and immediate, the
+/// kinds of rs1 and rs2 there, and the kind that the node behind it has.
+static DRIVER: [(u64, Op, i64, Row, Row, Row); 16] = [
+    (
+        0x1074,
+        Op::Auipc,
+        0x1000,
+        ANY,
+        ANY,
+        ('p', 0, 0x2074, 0x2074, 1),
+    ),
+    (
+        0x1078,
+        Op::Addi,
+        -100,
+        ('p', 0, 0x2074, 0x2074, 1),
+        ANY,
+        ('p', 0, 0x2010, 0x2010, 1),
+    ),
+    (
+        0x1084,
+        Op::Auipc,
+        0x1000,
+        ANY,
+        ANY,
+        ('p', 0, 0x2084, 0x2084, 1),
+    ),
+    (
+        0x1088,
+        Op::Addi,
+        -124,
+        ('p', 0, 0x2084, 0x2084, 1),
+        ANY,
+        ('p', 0, 0x2008, 0x2008, 1),
+    ),
+    (0x1094, Op::Add, 0, NUMBER, NUMBER, NUMBER),
+    (0x109c, Op::Addi, 0, NUMBER, ANY, NUMBER),
+    (
+        0x10a4,
+        Op::Addi,
+        -16,
+        ('p', 1, 65536, 65536, 1),
+        ANY,
+        ('p', 1, 65520, 65520, 1),
+    ),
+    (
+        0x10ac,
+        Op::Auipc,
+        0x1000,
+        ANY,
+        ANY,
+        ('p', 0, 0x20ac, 0x20ac, 1),
+    ),
+    (
+        0x10b0,
+        Op::Addi,
+        -172,
+        ('p', 0, 0x20ac, 0x20ac, 1),
+        ANY,
+        ('p', 0, 0x2000, 0x2000, 1),
+    ),
+    (0x10bc, Op::Addi, 0, ZERO, ANY, ZERO),
+    (
+        0x10c0,
+        Op::Auipc,
+        0x1000,
+        ANY,
+        ANY,
+        ('p', 0, 0x20c0, 0x20c0, 1),
+    ),
+    (
+        0x10c4,
+        Op::Addi,
+        -184,
+        ('p', 0, 0x20c0, 0x20c0, 1),
+        ANY,
+        ('p', 0, 0x2008, 0x2008, 1),
+    ),
+    (0x10cc, Op::Addi, 0, ZERO, ANY, ZERO),
+    (
+        0x10d0,
+        Op::Auipc,
+        0x1000,
+        ANY,
+        ANY,
+        ('p', 0, 0x20d0, 0x20d0, 1),
+    ),
+    (
+        0x10d4,
+        Op::Addi,
+        -208,
+        ('p', 0, 0x20d0, 0x20d0, 1),
+        ANY,
+        ('p', 0, 0x2000, 0x2000, 1),
+    ),
+    (
+        0x10e0,
+        Op::Addi,
+        16,
+        ('p', 1, 65520, 65520, 1),
+        ANY,
+        ('p', 1, 65536, 65536, 1),
+    ),
+];
+
+#[test]
+fn the_worked_driver_has_its_kinds(rt: HostRuntime) {
+    for (at, op, imm, a, b, wanted) in &DRIVER {
+        let place = Place {
+            at: *at,
+            len: 4,
+            target: None,
+        };
+        let found = transfer(
+            &insn(*op, 11, 12, *imm),
+            &place,
+            &kind(*a),
+            &kind(*b),
+            &LENS,
+        );
+        assert!(rt; found == kind(*wanted), "{at} {op:?}: {found:?}");
+    }
 }
 
 /// A name, whether the branch is taken, the kinds before, and those behind; a row of `x` is an edge that isn't possible.
