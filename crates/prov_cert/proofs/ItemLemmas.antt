@@ -112,10 +112,10 @@ no_comma b h = grind (arith, nat_tests, h)
 no_semicolon : (b : ℕ) → is_list b ≡ true → not (b == 59) ≡ true
 no_semicolon b h = grind (arith, nat_tests, h)
 
-words_part : (w : List ℕ) → IsWord w → Are is_part w
+pub words_part : (w : List ℕ) → IsWord w → Are is_part w
 words_part w h = are-more is_name_byte is_part part_of_word w (word_are w h)
 
-number_part : (n : ℕ) → IsNumber n → Are is_part (decimal n)
+pub number_part : (n : ℕ) → IsNumber n → Are is_part (decimal n)
 number_part n h = words_part (decimal n) (decimal_word n h)
 
 pub spaced_part : (a b : List ℕ) → Are is_part a → Are is_part b → Are is_part (spaced a b)
@@ -263,7 +263,7 @@ module _ (back : ReadBack) where
   registers_back regions before (k ∷ kinds) few h =
       rw (register_kind_back regions k few h.0 h.2, h.1) (registers_back regions (before ++ k ∷ []) kinds few h.3 ∙ ap Some (append_assoc before (k ∷ []) kinds))
 
-  register_pieces : (regions : ℕ) (before kinds : List RegKind) → regions ≤ 32 → AreRegisters regions before kinds → ArePieces (map register_text kinds)
+  pub register_pieces : (regions : ℕ) (before kinds : List RegKind) → regions ≤ 32 → AreRegisters regions before kinds → ArePieces (map register_text kinds)
   unfolding register_text
   register_pieces regions before [] few h = tt
   register_pieces regions before (k ∷ kinds) few h =
@@ -285,7 +285,7 @@ module _ (back : ReadBack) where
   stack_back regions before (part ∷ parts) few h =
       rw (stack_part_back regions part few h.0, h.1) (stack_back regions (before ++ part ∷ []) parts few h.2 ∙ ap Some (append_assoc before (part ∷ []) parts))
 
-  stack_pieces : (regions : ℕ) (before parts : List StackPart) → regions ≤ 32 → AreParts regions before parts → ArePieces (map part_text parts)
+  pub stack_pieces : (regions : ℕ) (before parts : List StackPart) → regions ≤ 32 → AreParts regions before parts → ArePieces (map part_text parts)
   unfolding part_text
   stack_pieces regions before [] few h = tt
   stack_pieces regions before (part ∷ parts) few h =
@@ -331,13 +331,13 @@ module _ (back : ReadBack) where
   spaces_part bound [] few h = tt
   spaces_part bound (n ∷ ns) few h = let low = h.0 in (refl, are-append is_part (decimal n) _ (words_part (decimal n) (decimal_word n (omega (arith, few, low)))) (spaces_part bound ns few h.1))
 
-  indices_part : (bound : ℕ) (ns : List ℕ) → bound ≤ 4096 → AreBelow bound ns → Are is_part (indices_text ns)
+  pub indices_part : (bound : ℕ) (ns : List ℕ) → bound ≤ 4096 → AreBelow bound ns → Are is_part (indices_text ns)
   indices_part bound [] few h = tt
   indices_part bound (n ∷ ns) few h = let low = h.0 in are-append is_part (decimal n) _ (words_part (decimal n) (decimal_word n (omega (arith, few, low)))) (spaces_part bound ns few h.1)
 
   -- entries and nodes
 
-  name_word : (name : List ℕ) → is_name name ≡ true → IsWord name
+  pub name_word : (name : List ℕ) → is_name name ≡ true → IsWord name
   name_word [] h = cc
   name_word (b ∷ bs) h =
       let p = and_parts (nat_le 1 (length (b ∷ bs))) (nat_le (length (b ∷ bs)) 32 && list_all is_name_byte (b ∷ bs)) h in

@@ -6,3 +6,5 @@ pub mod KeptLemmas
 pub mod TextLemmas
 pub mod BackLemmas
 pub mod ItemLemmas
+pub mod DocLemmas
+pub mod CertLemmas

@@ -1,12 +1,13 @@
--- Each item's text is read as that item.
-use Rattle.std.specs.Prelude.{ℕ, ◌≡◌, ◌<◌, ◌≤◌, Some}
+-- Each item's text is read as that item, and a certificate's text as that certificate.
+use Rattle.std.specs.Prelude.{ℕ, ◌≡◌, ◌<◌, ◌≤◌, Some, Ok}
 use Rattle.prov_types.specs.declared.kinds.Kind.{Kind}
 use Rattle.prov_cert.specs.declared.cert.OwnRegion.{OwnRegion}
 use Rattle.prov_cert.specs.declared.cert.CertSpan.{CertSpan}
-use Rattle.prov_cert.specs.Cert.{Entry, Node}
+use Rattle.prov_cert.specs.Cert.{Entry, Node, Plain}
 use Rattle.prov_cert.specs.Forms.{Counts, kind_of, region_of, span_of, entry_of, node_of}
-use Rattle.prov_cert.specs.Kept.{IsNumber, IsKind, IsStretch, IsEntry, IsNode}
-use Rattle.prov_cert.specs.Texts.{kind_text, region_text, stretch_text, entry_text, node_text}
+use Rattle.prov_cert.specs.Reading.{cert_in}
+use Rattle.prov_cert.specs.Kept.{IsNumber, IsKind, IsStretch, IsEntry, IsNode, IsCert}
+use Rattle.prov_cert.specs.Texts.{kind_text, region_text, stretch_text, entry_text, node_text, cert_lines}
 
 -- no more regions, nodes and cells than a certificate may have
 pub record AreFew (counts : Counts) : Type 0 where
@@ -29,3 +30,7 @@ EntriesReadBack = (counts : Counts) (entry : Entry) → AreFew counts → IsEntr
 
 abbrev pub NodesReadBack : Type 0
 NodesReadBack = (counts : Counts) (node : Node) → AreFew counts → IsNode counts node → node_of counts (node_text node) ≡ Some node
+
+-- A certificate that keeps the forms is what its text says.
+abbrev pub CertsReadBack : Type 0
+CertsReadBack = (cert : Plain) → IsCert cert → cert_in (cert_lines cert) ≡ Ok cert

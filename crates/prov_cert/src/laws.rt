@@ -1,6 +1,6 @@
 //! Laws of certificates.
 ghost use Rattle.prov_cert.specs.Kept.{CertsKeepForms};
-ghost use Rattle.prov_cert.specs.Back.{KindsReadBack, RegionsReadBack, SpansReadBack, EntriesReadBack, NodesReadBack};
+ghost use Rattle.prov_cert.specs.Back.{KindsReadBack, RegionsReadBack, SpansReadBack, EntriesReadBack, NodesReadBack, CertsReadBack};
 
 use uh_base::decimals_read_back;
 
@@ -20,6 +20,13 @@ pub fn items_read_back()
     ensures spans { SpansReadBack }
     ensures entries { EntriesReadBack }
     ensures nodes { NodesReadBack }
+{
+    decimals_read_back();
+}
+
+/// A law: the text of a certificate that keeps its forms, as `cert_text` writes it, is read as that certificate.
+pub fn certs_read_back()
+    ensures { CertsReadBack }
 {
     decimals_read_back();
 }

@@ -15,6 +15,6 @@ mod writing;
 
 pub use cert::{Cert, CertEntry, CertSpan, Class, Node, OwnRegion, RegKind, StackPart};
 pub use fault::{CertFault, Part};
-pub use laws::{certs_keep_forms, items_read_back};
+pub use laws::{certs_keep_forms, certs_read_back, items_read_back};
 pub use reading::read_cert;
 pub use writing::cert_text;
