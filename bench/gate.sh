@@ -1,7 +1,6 @@
 #!/usr/bin/env bash
 # Prints the processor seconds that the named crates cost the gate from nothing, or all crates, lowest first: their proof
-# with that of their tests, and their must-fail edits. All crates take hours. It measures and judges nothing; figures seen
-# are in docs/speed.md.
+# with that of their tests, and their must-fail edits. All crates take hours. It measures and judges nothing.
 set -euo pipefail
 
 top=$(cd "$(dirname "${BASH_SOURCE[0]}")/.." && pwd)

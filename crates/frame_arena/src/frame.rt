@@ -37,6 +37,7 @@ impl Frame {
         })
     }
 
+    /// All its bytes, in order.
     #[inline(always)]
     pub(crate) fn bytes(&self) -> &[u8]
         ensures value { result.now ≡ self.now }
@@ -45,6 +46,7 @@ impl Frame {
         self.bytes.as_slice()
     }
 
+    /// Stores a byte at an index.
     #[inline(always)]
     pub(crate) fn store(&mut self, at: usize, byte: u8)
         requires { at < 4096 }
@@ -73,6 +75,7 @@ impl Frame {
         self.bytes.copy_from_slice(bytes);
     }
 
+    /// Makes all its bytes zeros.
     pub(crate) fn clear(&mut self)
         ensures { self.new ≡ zeros }
     {
@@ -87,6 +90,7 @@ impl Frame {
         u64::from_le_bytes([a, b, c, d, e, f, g, h])
     }
 
+    /// Makes the first eight bytes link to a number, the least byte first.
     pub(crate) fn set_link(&mut self, to: u64)
         ensures value { link self.new ≡ to }
         ensures whole { IsFrame self.new }
