@@ -9,8 +9,6 @@ mod laws;
 mod moving;
 mod reading;
 mod site;
-#[cfg(test)]
-mod tests;
 
 pub use fault::RelocFault;
 pub use laws::{

@@ -7,8 +7,6 @@ mod kind;
 mod laws;
 mod queue;
 mod refusal;
-#[cfg(test)]
-mod tests;
 mod ticks;
 mod timer;
 mod timers;

@@ -4,7 +4,6 @@
 mod arena;
 mod frame;
 mod laws;
-mod tests;
 
 pub use arena::{Arena, ArenaRefusal, FrameId};
 pub use laws::frames_are_a_map;

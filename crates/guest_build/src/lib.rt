@@ -20,8 +20,6 @@ mod places;
 mod relocation;
 mod sections;
 mod statement;
-#[cfg(test)]
-mod tests;
 mod text;
 mod word;
 

@@ -7,8 +7,6 @@ mod handles;
 mod laws;
 mod protocol;
 mod refusal;
-#[cfg(test)]
-mod tests;
 
 pub use entry::OpenEntry;
 pub use handles::Handles;

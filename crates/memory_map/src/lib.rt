@@ -5,8 +5,6 @@ mod cursor;
 mod descriptor;
 mod laws;
 mod map;
-#[cfg(test)]
-mod tests;
 mod write;
 
 pub use cursor::MapCursor;

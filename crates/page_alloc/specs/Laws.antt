@@ -1,9 +1,12 @@
 -- What the definitions come to.
 use Rattle.std.specs.Prelude.{ℕ, ◌≡◌, ◌<◌, ◌≤◌, ◌+◌, ◌*◌, ◌-◌, ◌^◌, ◌%◌, ◌⊎◌, min, Bool, true, false, List, [], ◌∷◌, length, slice_get, Some, Ok, is_ok, if◌then◌else◌}
+use Rattle.page_alloc.specs.declared.layout.Layout.{Layout}
 use Rattle.page_alloc.specs.declared.page.Owner.{Owner}
 use Rattle.page_alloc.specs.declared.page.Page.{Page}
 use Rattle.page_alloc.specs.declared.page.Owner.TheVariants.{Free}
 use Rattle.page_alloc.specs.Pages.{PageList, Whole, changed, index_of, page_at, is_conventional, conventional}
+use Rattle.page_alloc.specs.Layout.{IsLayout}
+use Rattle.page_alloc.specs.Opening.{opening_pages}
 use Rattle.page_alloc.specs.Fit.{is_fit}
 use Rattle.page_alloc.specs.Calls.{allocation, after_allocation, freeing, after_freeing, owns, is_same_owner}
 
@@ -92,3 +95,7 @@ accepted m (call ∷ calls) = (if is_accepted m call then 1 else 0) + accepted (
 -- After every list of calls the key has risen by one for each that was accepted, up to the end of its type.
 abbrev pub KeyCounts : Type 0
 KeyCounts = (m : PageList) (calls : List PageCall) → m.key < 2 ^ 64 → (after_calls m calls).key ≡ min (m.key + accepted m calls) (2 ^ 64 - 1)
+
+-- At opening there is a page for each page of RAM.
+abbrev pub OpeningCoversRam : Type 0
+OpeningCoversRam = (layout : Layout) → IsLayout layout → length (opening_pages layout) ≡ layout.pages

@@ -2,7 +2,7 @@
 #![tactic(auto)]
 
 ghost use Rattle.page_alloc.specs.Fit.{FitIsHighest};
-ghost use Rattle.page_alloc.specs.Laws.{FitMeans, FreeRestores, OthersStay, CallsLeaveOthers, OwnedStay, GivenAreOwned, OwnedAreFreed, KeyCounts};
+ghost use Rattle.page_alloc.specs.Laws.{FitMeans, FreeRestores, OthersStay, CallsLeaveOthers, OwnedStay, GivenAreOwned, OwnedAreFreed, KeyCounts, OpeningCoversRam};
 
 /// The fit is the highest start that fits, or there is none.
 #[tactic(auto, using(crate::proofs::FitLemmas::fits_are_highest))]
@@ -54,4 +54,10 @@ pub fn owned_are_freed()
 #[tactic(auto, using(crate::proofs::LawLemmas::key_counts))]
 pub fn key_counts()
     ensures { KeyCounts }
+{}
+
+/// The map at opening has a page for each page of RAM.
+#[tactic(auto, using(crate::proofs::Openings::opening_length))]
+pub fn opening_covers_ram()
+    ensures { OpeningCoversRam }
 {}

@@ -6,12 +6,10 @@ mod layout;
 mod map;
 mod page;
 mod runs;
-#[cfg(test)]
-mod tests;
 
 pub use laws::{
     calls_leave_others, fit_is_highest, fit_means, free_restores, given_are_owned, key_counts,
-    others_stay, owned_are_freed, owned_stay,
+    opening_covers_ram, others_stay, owned_are_freed, owned_stay,
 };
 pub use layout::Layout;
 pub use map::PageMap;

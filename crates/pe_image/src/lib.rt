@@ -11,8 +11,6 @@ mod laws;
 mod placing;
 mod reading;
 mod sections;
-#[cfg(test)]
-mod tests;
 
 pub use fault::PeFault;
 pub use fields::{u16_in, u32_in, u64_in};

@@ -7,8 +7,6 @@ mod page;
 mod pool;
 mod refusal;
 mod span;
-#[cfg(test)]
-mod tests;
 
 pub use block::Block;
 pub use laws::{lowest_is_lowest, pool_is_apart, pool_leaves_others, pool_stays_together};

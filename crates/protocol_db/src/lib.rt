@@ -9,8 +9,6 @@ mod protocols;
 mod refusal;
 mod registration;
 mod request;
-#[cfg(test)]
-mod tests;
 
 pub use handle_db::OpenEntry;
 pub use installed::{AllInstalled, Installed};

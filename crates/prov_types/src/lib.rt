@@ -8,8 +8,6 @@ mod kinds;
 mod laws;
 mod rules;
 mod spans;
-#[cfg(test)]
-mod tests;
 
 pub use edges::{is_branch, narrow};
 pub use fitting::fits;

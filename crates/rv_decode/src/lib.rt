@@ -11,8 +11,6 @@ mod known;
 mod laws;
 mod ranges;
 mod table;
-#[cfg(test)]
-mod tests;
 mod text;
 
 pub use decoder::{decode, one_row_holds};

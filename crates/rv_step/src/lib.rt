@@ -8,8 +8,6 @@ mod hart;
 mod laws;
 mod perform;
 mod regs;
-#[cfg(test)]
-mod tests;
 mod values;
 
 pub use ask::{Ask, asked};

@@ -11,6 +11,3 @@ mod tables;
 pub use console::console_text;
 pub use laws::{crcs_are_right, crcs_stay_right, fields_read_back, tables_are_apart};
 pub use memory::{build_tables, clear_boot, move_tables};
-
-#[cfg(test)]
-mod tests;

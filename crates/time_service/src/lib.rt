@@ -5,8 +5,6 @@ mod clock;
 mod days;
 mod efi_time;
 mod laws;
-#[cfg(test)]
-mod tests;
 mod text;
 
 pub use clock::Clock;

@@ -9,8 +9,6 @@ mod places;
 mod reading;
 mod refusal;
 mod saving;
-#[cfg(test)]
-mod tests;
 mod variable;
 mod variables;
 

@@ -1,0 +1,7 @@
+//! Tests of kinds and certificates.
+#![tactic(auto)]
+
+#[cfg(test)]
+mod certificates;
+#[cfg(test)]
+mod kinds;

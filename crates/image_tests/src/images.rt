@@ -1,0 +1,372 @@
+//! Images that come into RAM and go again.
+
+ghost use Rattle.std.specs.Prelude.{◌≡◌, ◌≤◌, IfOk, length, vec_len};
+ghost use Rattle.page_alloc.specs.Layout.{IsRam};
+
+use address_view::View;
+use base_reloc::RelocFault;
+use guest_call::number_seen;
+use guest_memory::{GuestMemory, Rights};
+use image_services::{
+    Images, LoadRefusal, Loaded, UnloadRefusal, discard_image, load_image, unload_image,
+};
+use page_alloc::{Layout, Owner, PageMap, opening_covers_ram};
+use pe_image::PeFault;
+use pool_alloc::Pool;
+use std::alloc::{AllocError, Global};
+use std::marker::Model;
+use std::test::Fail;
+use uh_base::EfiStatus;
+
+/// RAM with its page map, its pool and the images in it, and how many handles were made.
+#[derive(Drop)]
+struct Ram {
+    layout: Layout,
+    memory: GuestMemory,
+    pages: PageMap,
+    pool: Pool,
+    images: Images,
+    made: u64,
+}
+
+impl Model for Ram {
+    ghost use Rattle.image_services.specs.Stores.{Store};
+    ghost use Rattle.pool_alloc.specs.Pool.{Together};
+    ghost use Rattle.virtual_map.specs.States.{AreOneRam};
+
+    ghost Value = { Store };
+
+    ghost view = { λ r. record { images = r.images; memory = r.memory; pages = r.pages; pool = r.pool } };
+
+    ghost invariant = { λ r. AreOneRam r.layout r.memory r.pages × Together r.pool r.pages };
+}
+
+impl Ram {
+    /// RAM at opening, one handle having been made.
+    #[tactic(auto, unfolding(page_alloc::specs::Layout::layout_at, page_alloc::specs::Opening::at_opening))]
+    fn new(alloc: Global, base: u64, pages: u32) -> Result<Ram, AllocError>
+        requires { IsRam base pages }
+    {
+        opening_covers_ram();
+        let layout = Layout::at(base, pages);
+        let memory = GuestMemory::new(alloc, base, pages)?;
+        let pages = PageMap::new(alloc, &layout)?;
+        Ok(Ram {
+            layout,
+            memory,
+            pages,
+            pool: Pool::new(alloc),
+            images: Images::new(alloc),
+            made: 1,
+        })
+    }
+
+    fn load(&mut self, alloc: Global, file: &[u8]) -> Result<u64, LoadRefusal>
+        requires { length file.now ≤ 0x400000 }
+    {
+        let images = &mut self.images;
+        let made = &mut self.made;
+        load_image(
+            alloc,
+            images,
+            &self.layout,
+            &mut self.memory,
+            &mut self.pages,
+            &mut self.pool,
+            made,
+            file,
+            7,
+        )
+    }
+
+    fn unload(&mut self, handle: u64) -> Result<(), UnloadRefusal> {
+        unload_image(
+            &mut self.images,
+            &self.layout,
+            &mut self.memory,
+            &mut self.pages,
+            &mut self.pool,
+            handle,
+        )
+    }
+
+    fn discard(&mut self, handle: u64) {
+        discard_image(
+            &mut self.images,
+            &self.layout,
+            &mut self.memory,
+            &mut self.pages,
+            &mut self.pool,
+            handle,
+        );
+    }
+}
+
+/// A change of a file.
+#[derive(Clone, Copy)]
+struct Patch(usize, u32, usize);
+
+/// An application of two pages, whose one section of 50 bytes stands at 0x1000.
+static IMAGE: [Patch; 20] = [
+    Patch(0, 0x5a4d, 2),
+    Patch(0x3c, 0x40, 4),
+    Patch(0x40, 0x4550, 4),
+    Patch(0x44, 0x5064, 2),
+    Patch(0x46, 1, 2),
+    Patch(0x54, 240, 2),
+    Patch(0x58, 0x20b, 2),
+    Patch(0x68, 0x1000, 4),
+    Patch(0x78, 0x1000, 4),
+    Patch(0x7c, 0x200, 4),
+    Patch(0x90, 0x2000, 4),
+    Patch(0x94, 0x200, 4),
+    Patch(0x9c, 10, 2),
+    Patch(0xc4, 16, 4),
+    Patch(0x150, 50, 4),
+    Patch(0x154, 0x1000, 4),
+    Patch(0x158, 0x200, 4),
+    Patch(0x15c, 0x200, 4),
+    Patch(0x16c, 0x6000_0000, 4),
+    Patch(0x200, 0x0405_b503, 4),
+];
+
+/// Writes a number's low bytes, where they lie in the file.
+fn put(file: &mut Vec<u8>, patch: Patch)
+    ensures { vec_len file.new ≡ vec_len file.old }
+{
+    let Patch(at, value, width) = patch;
+    for i in 0..4 {
+        if i < width && at < file.len() && i < file.len() - at {
+            file[at + i] = value.to_le_bytes()[i];
+        }
+    }
+}
+
+fn put_all(file: &mut Vec<u8>, patches: &[Patch])
+    ensures { vec_len file.new ≡ vec_len file.old }
+{
+    for patch in patches {
+        put(file, *patch);
+    }
+}
+
+/// The application with changes, in 1,024 bytes.
+fn file_of(alloc: Global, patches: &[Patch]) -> Result<Vec<u8>, AllocError>
+    ensures { IfOk result (λ file. vec_len file ≡ 1024) }
+{
+    let mut file = vec![in alloc; 0u8; 1024]?;
+    put_all(&mut file, &IMAGE);
+    put_all(&mut file, patches);
+    Ok(file)
+}
+
+#[test]
+fn an_application_of_two_pages(rt: HostRuntime) -> Result<(), Fail> {
+    let alloc = rt.alloc();
+    let mut ram = Ram::new(alloc, 0x4000_0000, 4096)?;
+    let file = file_of(alloc, &[])?;
+    assert_eq!(rt; ram.load(alloc, &file), Ok(32));
+    let loaded = Loaded {
+        handle: 32,
+        base: 0x40fb_a000,
+        pages: 2,
+        subsystem: 10,
+        entry: 0x40fb_b000,
+        block: 0x40fb_9000,
+        started: false,
+    };
+    assert_eq!(rt; ram.images.find(32), Some(loaded));
+    assert_eq!(rt; ram.made, 2);
+    assert_eq!(rt; ram.pages.key(), 3);
+    assert_eq!(rt; ram.pages.type_at(0x40fb_9000), Some((4, Owner::Pool)));
+    assert_eq!(rt; ram.pages.type_at(0x40fb_a000), Some((1, Owner::Image)));
+    assert_eq!(rt; ram.pages.type_at(0x40fb_b000), Some((1, Owner::Image)));
+    assert_eq!(rt; ram.memory.touched(), 3);
+    let header = Rights {
+        read: true,
+        write: false,
+        exec: false,
+    };
+    assert_eq!(rt; ram.memory.rights_at(0x40fb_a000), Some(header));
+    let code = Rights {
+        read: true,
+        write: false,
+        exec: true,
+    };
+    assert_eq!(rt; ram.memory.rights_at(0x40fb_b000), Some(code));
+    let view = View::identity(alloc, 0x4000_0000, 0x100_0000)?;
+    let rows = [
+        (0x40fb_9000, 0x1000),
+        (0x40fb_9008, 7),
+        (0x40fb_9010, 0x40ff_e000),
+        (0x40fb_9018, 0),
+        (0x40fb_9020, 0),
+        (0x40fb_9028, 0),
+        (0x40fb_9030, 0),
+        (0x40fb_9038, 0),
+        (0x40fb_9040, 0x40fb_a000),
+        (0x40fb_9048, 0x2000),
+        (0x40fb_9050, 0x2_0000_0001),
+        (0x40fb_9058, 0),
+        (0x40fb_b000, 0x0405_b503),
+    ];
+    for (at, value) in rows {
+        assert_eq!(rt; number_seen(&ram.memory, &view, at, 8), value);
+    }
+    Ok(())
+}
+
+#[test]
+fn images_go_again(rt: HostRuntime) -> Result<(), Fail> {
+    let alloc = rt.alloc();
+    let mut ram = Ram::new(alloc, 0x4000_0000, 4096)?;
+    let file = file_of(alloc, &[])?;
+    assert_eq!(rt; ram.load(alloc, &file), Ok(32));
+    assert_eq!(rt; ram.load(alloc, &file), Ok(48));
+    let second = ram.images.find(48).map(|image| (image.base, image.block));
+    assert_eq!(rt; second, Some((0x40fb_7000, 0x40fb_9060)));
+    assert_eq!(rt; ram.pages.key(), 4);
+    ram.images.mark(32);
+    assert_eq!(rt; ram.unload(33), Err(UnloadRefusal::Unknown));
+    assert_eq!(rt; ram.unload(32), Err(UnloadRefusal::Started));
+    assert_eq!(rt; ram.unload(48), Ok(()));
+    assert_eq!(rt; ram.images.find(48), None);
+    assert_eq!(rt; ram.pages.key(), 5);
+    ram.discard(33);
+    assert_eq!(rt; ram.pages.key(), 5);
+    ram.discard(32);
+    assert_eq!(rt; ram.pages.key(), 7);
+    assert_eq!(rt; ram.memory.touched(), 0);
+    for page in 0..0xfbc {
+        let at = 0x4000_0000 + 4096 * page;
+        assert_eq!(rt; ram.pages.type_at(at), Some((7, Owner::Free)));
+    }
+    Ok(())
+}
+
+#[test]
+fn sixteen_images(rt: HostRuntime) -> Result<(), Fail> {
+    let alloc = rt.alloc();
+    let mut ram = Ram::new(alloc, 0x4000_0000, 4096)?;
+    let file = file_of(alloc, &[])?;
+    for number in 0..16 {
+        assert_eq!(rt; ram.load(alloc, &file), Ok(32 + 16 * number));
+    }
+    let refusal = LoadRefusal::TooMany;
+    assert_eq!(rt; ram.load(alloc, &[]), Err(refusal));
+    assert_eq!(rt; refusal.status(), EfiStatus::OUT_OF_RESOURCES);
+    Ok(())
+}
+
+#[test]
+fn stripped_images_lie_at_their_bases(rt: HostRuntime) -> Result<(), Fail> {
+    let alloc = rt.alloc();
+    let rows = [
+        (0x4000_0000, true),
+        (0x40fb_a000, true),
+        (0x40fb_b000, false),
+        (0x3fff_f000, false),
+        (0, false),
+    ];
+    for (base, fits) in rows {
+        let mut ram = Ram::new(alloc, 0x4000_0000, 4096)?;
+        let file = file_of(alloc, &[Patch(0x56, 1, 2), Patch(0x70, base, 4)])?;
+        let loaded = ram.load(alloc, &file);
+        if fits {
+            assert_eq!(rt; loaded, Ok(32));
+            let image = ram.images.find(32).map(|image| image.base);
+            assert_eq!(rt; image, Some(u64::from(base)));
+        } else {
+            assert_eq!(rt; loaded, Err(LoadRefusal::Placed));
+        }
+    }
+    Ok(())
+}
+
+#[test]
+fn refusals_leave_all_as_it_was(rt: HostRuntime) -> Result<(), Fail> {
+    let alloc = rt.alloc();
+    let large = Patch(0x90, 0x80_0000, 4);
+    let table = Patch(0xf0, 0x1000, 4);
+    let rows = [
+        (
+            [Patch(0, 0x4d5a, 2); 4],
+            1,
+            LoadRefusal::Pe(PeFault::Magic),
+            EfiStatus::LOAD_ERROR,
+        ),
+        (
+            [Patch(0x44, 0x8664, 2); 4],
+            1,
+            LoadRefusal::Pe(PeFault::Machine),
+            EfiStatus::UNSUPPORTED,
+        ),
+        (
+            [Patch(0x9c, 9, 2); 4],
+            1,
+            LoadRefusal::Pe(PeFault::Subsystem),
+            EfiStatus::UNSUPPORTED,
+        ),
+        (
+            [table, Patch(0xf4, 8, 4), large, large],
+            1,
+            LoadRefusal::Reloc(RelocFault::BlockSize(0)),
+            EfiStatus::LOAD_ERROR,
+        ),
+        (
+            [Patch(0x56, 1, 2), large, large, large],
+            1,
+            LoadRefusal::Placed,
+            EfiStatus::LOAD_ERROR,
+        ),
+        (
+            [large; 4],
+            (1 << 60) - 1,
+            LoadRefusal::NoPages,
+            EfiStatus::OUT_OF_RESOURCES,
+        ),
+        (
+            [table; 4],
+            (1 << 60) - 1,
+            LoadRefusal::Full,
+            EfiStatus::OUT_OF_RESOURCES,
+        ),
+    ];
+    for (patches, made, refusal, status) in rows {
+        let mut ram = Ram::new(alloc, 0x4000_0000, 256)?;
+        ram.made = made;
+        let file = file_of(alloc, &patches)?;
+        assert_eq!(rt; ram.load(alloc, &file), Err(refusal));
+        assert_eq!(rt; refusal.status(), status);
+        assert_eq!(rt; ram.pages.key(), 1);
+        assert_eq!(rt; ram.memory.touched(), 0);
+        assert_eq!(rt; ram.made, made);
+    }
+    Ok(())
+}
+
+#[test]
+fn a_word_of_32_bits_leaves_its_range(rt: HostRuntime) -> Result<(), Fail> {
+    let alloc = rt.alloc();
+    let patches = [
+        Patch(0xf0, 0x1000, 4),
+        Patch(0xf4, 12, 4),
+        Patch(0x200, 0x1000, 4),
+        Patch(0x204, 12, 4),
+        Patch(0x208, 0x3010, 4),
+    ];
+    let file = file_of(alloc, &patches)?;
+    let mut low = Ram::new(alloc, 0x4000_0000, 256)?;
+    assert_eq!(rt; low.load(alloc, &file), Ok(32));
+    let view = View::identity(alloc, 0x4000_0000, 0x10_0000)?;
+    assert_eq!(rt;
+        number_seen(&low.memory, &view, 0x400b_b010, 4),
+        0x400b_a000
+    );
+    let mut high = Ram::new(alloc, 0x1_0000_0000, 256)?;
+    let refusal = LoadRefusal::Reloc(RelocFault::Range32(0));
+    assert_eq!(rt; high.load(alloc, &file), Err(refusal));
+    assert_eq!(rt; refusal.status(), EfiStatus::LOAD_ERROR);
+    assert_eq!(rt; high.pages.key(), 1);
+    Ok(())
+}
