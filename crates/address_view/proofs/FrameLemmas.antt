@@ -1,13 +1,15 @@
 -- The frames that stores into several ranges take together.
-use Rattle.std.proofs.Common.{◌≡◌, ℕ, ◌+◌, ◌-◌, ◌<◌, ◌≤◌, Bool, false, List, [], ◌∷◌, length, drop, get_or, refl, sym, ap, ◌∙◌, arith}
+use Rattle.std.proofs.Common.{◌≡◌, ℕ, ◌+◌, ◌-◌, ◌<◌, ◌≤◌, Bool, true, false, List, [], ◌∷◌, ◌++◌, zero, suc, length, take, drop, replicate, get_or, refl, sym, ap, ◌∙◌, arith}
+use borrow.Rule.Slice.PartMut.{put_mid}
 use Rattle.std.specs.Prelude.{Option, nat_lt}
 use Rattle.std.proofs.lemmas.Bool.Decides.{nat_tests}
 use Rattle.std.proofs.lemmas.List.{drop_more}
 use Rattle.uh_base.specs.Limits.{frame_limit}
-use Rattle.guest_memory.specs.Lists.{count_true}
+use Rattle.guest_memory.specs.Lists.{count_true, filled}
+use Rattle.guest_memory.specs.Changes.{cleared}
 use Rattle.guest_memory.specs.Pages.{Pages}
 use Rattle.address_view.specs.declared.frames.ByteRange.{ByteRange}
-use Rattle.address_view.specs.Stored.{stored, marked}
+use Rattle.address_view.specs.Stored.{stored, marked, lacks_seen}
 use Rattle.address_view.specs.Ranges.{marked_ranges, lacks_ranges, total_length}
 use Rattle.address_view.specs.Laws.{RangesSuffice}
 use Rattle.address_view.proofs.MarkedLemmas.{marked_less, marked_most}
@@ -58,3 +60,49 @@ ranges_suffice see m range ranges h =
           ∙ ap (λ base. nat_lt frame_limit (count_true (marked_ranges see base (marked see m.base m.touched range.at range.len) ranges))) (base_stored see m range.at bytes)
           ∙ rest;
     }
+
+-- ---- pages are cleared first
+
+count_append : (xs ys : List Bool) → count_true (xs ++ ys) ≡ count_true xs + count_true ys
+unfolding count_true
+count_append [] ys = let z : count_true [] ≡ 0 = refl in omega (arith, z)
+count_append (true ∷ xs) ys = let h = count_append xs ys in let a : count_true (true ∷ xs) ≡ suc (count_true xs) = refl in let b : count_true (true ∷ (xs ++ ys)) ≡ suc (count_true (xs ++ ys)) = refl in omega (arith, h, a, b)
+count_append (false ∷ xs) ys = count_append xs ys
+
+pub part_filled : (xs part : List Bool) (i last n k : ℕ) → last ≡ i + n → k ≡ n → part ≡ replicate k false → put_mid i (last - i) xs part ≡ filled xs i n false
+part_filled xs part i last n k l m e = let d : last - i ≡ n = omega arith in rw (d, e, m) refl
+
+count_no : (n : ℕ) → count_true (replicate n false) ≡ 0
+unfolding count_true
+count_no zero = refl
+count_no (suc n) = count_no n
+
+count_drop : (n : ℕ) (xs : List Bool) → count_true (drop n xs) ≤ count_true xs
+unfolding count_true
+count_drop zero xs = omega arith
+count_drop (suc n) [] = omega arith
+count_drop (suc n) (true ∷ xs) = let h = count_drop n xs in omega (arith, h)
+count_drop (suc n) (false ∷ xs) = count_drop n xs
+
+count_parts : (n : ℕ) (xs : List Bool) → count_true (take n xs) + count_true (drop n xs) ≡ count_true xs
+unfolding count_true
+count_parts zero xs = let z : count_true [] ≡ 0 = refl in omega (arith, z)
+count_parts (suc n) [] = let z : count_true [] ≡ 0 = refl in omega (arith, z)
+count_parts (suc n) (true ∷ xs) = let h = count_parts n xs in let a : count_true (true ∷ xs) ≡ suc (count_true xs) = refl in let b : count_true (true ∷ take n xs) ≡ suc (count_true (take n xs)) = refl in omega (arith, h, a, b)
+count_parts (suc n) (false ∷ xs) = count_parts n xs
+
+-- clearing touches nothing
+fewer : (xs : List Bool) (p c : ℕ) → count_true (filled xs p c false) ≤ count_true xs
+fewer xs p c =
+    let a = count_append (take p xs) (replicate c false ++ drop c (drop p xs)) in
+    let b = count_append (replicate c false) (drop c (drop p xs)) in
+    let n = count_no c in
+    let d = count_drop c (drop p xs) in
+    let e = count_parts p xs in
+    omega (arith, a, b, n, d, e)
+
+pub room_cleared : (see : ℕ → Option ℕ) (m : Pages) (page count at len : ℕ) → count_true m.touched ≤ 65536 → len ≤ 65536 - count_true m.touched → lacks_seen see (cleared m page count) at len ≡ false
+room_cleared see m page count at len few h =
+    let a = marked_most see m.base (cleared m page count).touched at len in
+    let b = fewer m.touched page count in
+    grind (arith, nat_tests)

@@ -13,3 +13,6 @@ pub mod PlaceLaws
 pub mod FrameLemmas
 pub mod CodeLemmas
 pub mod RangeMarks
+pub mod SplitLemmas
+pub mod RunLaws
+pub mod FollowLaws

@@ -1,6 +1,6 @@
 -- The pages that a store marks.
 use Rattle.std.proofs.Common.{◌≡◌, ℕ, ◌+◌, ◌-◌, ◌/◌, ◌<◌, ◌≤◌, Bool, true, false, List, refl, sym, ◌∙◌, ap, arith, [], ◌∷◌, zero, suc, length, length-set}
-use Rattle.std.specs.Prelude.{◌&&◌, if◌then◌else◌, Option, Some, None, slice_set, slice_get}
+use Rattle.std.specs.Prelude.{◌&&◌, Option, Some, None, slice_set, slice_get}
 use Rattle.std.proofs.lemmas.Bool.Decides.{nat_tests}
 use Rattle.uh_base.specs.Bytes.{next, first_refused}
 use Rattle.uh_base.specs.Limits.{frame_limit}
@@ -8,7 +8,7 @@ use Rattle.guest_memory.specs.Lists.{count_true}
 use Rattle.guest_memory.specs.Pages.{Pages, holds, page_of, or_false}
 use Rattle.address_view.proofs.MemoryLemmas.{set_again}
 use Rattle.address_view.specs.Seen.{is_seen}
-use Rattle.address_view.specs.Stored.{put_seen, stored, mark_seen, marked, lacks_seen, is_marked, all_marked, all_touched, AllSeen, PageSeen}
+use Rattle.address_view.specs.Stored.{put_seen, stored, mark_seen, marked, lacks_seen, is_marked, all_marked, all_touched, AllSeen}
 use Rattle.address_view.proofs.MemoryLemmas.{page_held}
 use Rattle.address_view.proofs.StoreLaws.{unrefused, seen_place}
 
@@ -167,26 +167,3 @@ room_for see m at n h = let a = marked_most see m.base m.touched at n in grind (
 
 pub no_more : (see : ℕ → Option ℕ) (m : Pages) (at n : ℕ) → count_true m.touched ≤ frame_limit → all_touched see m at n ≡ true → lacks_seen see m at n ≡ false
 no_more see m at n few all = let a = ap count_true (same_marked see m.base m.touched at n all) in grind (arith, nat_tests)
-
--- one address of a store
-pub page_there : (see : ℕ → Option ℕ) (m : Pages) (at place page : ℕ) → is_seen see m at ≡ true → see at ≡ Some place
-    → Some page ≡ (if holds m place then Some (page_of m place) else None) → PageSeen see m at page
-page_there see m at place page ok s e =
-    let h : holds m place ≡ true = rw s at ok in
-    let f : Some page ≡ Some (page_of m place) = e ∙ rw h refl in
-    let g : page ≡ page_of m place = cc in
-    (place, s, g, rw g (page_held m place h))
-
-pub page_missing : (see : ℕ → Option ℕ) (m : Pages) (at place : ℕ) → is_seen see m at ≡ true → see at ≡ Some place
-    → None ≡ (if holds m place then Some (page_of m place) else None) → ⊥
-page_missing see m at place ok s e =
-    let h : holds m place ≡ true = rw s at ok in
-    let f : None ≡ Some (page_of m place) = e ∙ rw h refl in grind arith
-
-pub shows_something : (see : ℕ → Option ℕ) (m : Pages) (at : ℕ) → is_seen see m at ≡ true → see at ≡ None → ⊥
-shows_something see m at ok s = let a : false ≡ true = rw s at ok in grind arith
-
-pub place_held : (see : ℕ → Option ℕ) (m : Pages) (at place : ℕ) → is_seen see m at ≡ true → see at ≡ Some place → holds m place ≡ false → ⊥
-place_held see m at place ok s out =
-    let h : holds m place ≡ true = rw s at ok in
-    let c : true ≡ false = sym h ∙ out in cc

@@ -18,10 +18,10 @@ pub held : (m : Pages) (place : ℕ) (r : Rights) → rights_at m place ≡ Some
 unfolding rights_at
 held m place r e = held_by (holds m place) (slice_get m.rights (page_of m place)) r e
 
-in_memory : (m : Pages) (place : ℕ) → holds m place ≡ true → (m.base ≤ place) × (place < m.base + 4096 * m.pages)
+pub in_memory : (m : Pages) (place : ℕ) → holds m place ≡ true → (m.base ≤ place) × (place < m.base + 4096 * m.pages)
 in_memory m place h = grind (arith, nat_tests)
 
-holds_it : (m : Pages) (place : ℕ) → m.base ≤ place → place < m.base + 4096 * m.pages → holds m place ≡ true
+pub holds_it : (m : Pages) (place : ℕ) → m.base ≤ place → place < m.base + 4096 * m.pages → holds m place ≡ true
 holds_it m place low high = grind (arith, nat_tests)
 
 same_rights : (m : Pages) (place i : ℕ) (r : Rights) → Whole m → rights_at m place ≡ Some r → place % 4096 + i < 4096 → rights_at m (place + i) ≡ Some r

@@ -16,17 +16,17 @@ use Rattle.address_view.specs.Windows.{seen_bytes}
 use Rattle.address_view.specs.Seen.{view_allows, OnePage}
 use Rattle.address_view.specs.Stored.{put_seen, stored, store_seen, marked, lacks_seen, all_marked, all_touched}
 
-next_is : (at : ℕ) → at + 1 < 2 ^ 64 → next at ≡ at + 1
+pub next_is : (at : ℕ) → at + 1 < 2 ^ 64 → next at ≡ at + 1
 next_is at h = omega arith
 
 -- the next address of a run
-shift : (P : ℕ → ℕ → Type 0) (at place n : ℕ) → ((i : ℕ) → i < suc n → P (at + i) (place + i)) → (i : ℕ) → i < n → P (at + 1 + i) (place + 1 + i)
+pub shift : (P : ℕ → ℕ → Type 0) (at place n : ℕ) → ((i : ℕ) → i < suc n → P (at + i) (place + i)) → (i : ℕ) → i < n → P (at + 1 + i) (place + 1 + i)
 shift P at place n h i lt =
     let a : at + 1 + i ≡ at + (i + 1) = omega arith in
     let b : place + 1 + i ≡ place + (i + 1) = omega arith in
     rw (a, b) (h (i + 1) (omega arith))
 
-first : (P : ℕ → ℕ → Type 0) (at place n : ℕ) → ((i : ℕ) → i < suc n → P (at + i) (place + i)) → P at place
+pub first : (P : ℕ → ℕ → Type 0) (at place n : ℕ) → ((i : ℕ) → i < suc n → P (at + i) (place + i)) → P at place
 first P at place n h =
     let a : at + 0 ≡ at = omega arith in
     let b : place + 0 ≡ place = omega arith in
@@ -78,7 +78,7 @@ fast_load see m kind at width place one =
     rw (r, n) refl
 
 -- a run in one page marks that page
-run_marked : (see : ℕ → Option ℕ) (base at place n : ℕ) (marks : List Bool) → ((i : ℕ) → i < suc n → see (at + i) ≡ Some (place + i)) → at + suc n ≤ 2 ^ 64
+pub run_marked : (see : ℕ → Option ℕ) (base at place n : ℕ) (marks : List Bool) → ((i : ℕ) → i < suc n → see (at + i) ≡ Some (place + i)) → at + suc n ≤ 2 ^ 64
     → base ≤ place → base % 4096 ≡ 0 → place % 4096 + suc n ≤ 4096 → marked see base marks at (suc n) ≡ slice_set marks ((place - base) / 4096) true
 unfolding marked
 run_marked see base at place zero marks h end low even one = let e : see at ≡ Some place = first (λ a p. see a ≡ Some p) at place 0 h in rw e refl

@@ -52,7 +52,7 @@ has_rights Fetch None e = grind arith
 has_rights kind (Some r) e = (r, refl)
 
 -- what allows an access shows memory
-place_allows : (m : Pages) (kind : Access) (o : Option ℕ) → may kind (at_place None (rights_at m) o) ≡ true → at_place false (holds m) o ≡ true
+pub place_allows : (m : Pages) (kind : Access) (o : Option ℕ) → may kind (at_place None (rights_at m) o) ≡ true → at_place false (holds m) o ≡ true
 place_allows m Load None e = grind arith
 place_allows m Store None e = grind arith
 place_allows m Fetch None e = grind arith

@@ -1,5 +1,5 @@
 -- Laws of loads and stores, where `see` is the place that each address shows.
-use Rattle.std.specs.Prelude.{ℕ, ◌≡◌, ◌≢◌, ◌<◌, ◌^◌, ◌↔◌, ◌⊎◌, Bool, true, false, List, ◌∷◌, length, slice_get, Option, Some, All}
+use Rattle.std.specs.Prelude.{ℕ, ◌≡◌, ◌≢◌, ◌<◌, ◌^◌, ◌↔◌, ◌⊎◌, Bool, true, false, List, ◌∷◌, ◌++◌, length, slice_get, Option, Some, All}
 use Rattle.uh_base.specs.Bytes.{number_at, behind}
 use Rattle.rv_step.specs.declared.bus.Access.{Access}
 use Rattle.guest_memory.specs.Runs.{bytes_from}
@@ -64,6 +64,18 @@ SameMarked = (see : ℕ → Option ℕ) (m : Pages) (at n : ℕ) → all_touched
 abbrev pub StoredOver : Type 0
 StoredOver = (see : ℕ → Option ℕ) (m : Pages) (marks : List Bool) (at : ℕ) (bytes : List ℕ)
     → stored see (record m { touched = marks }) at bytes ≡ record (stored see m at bytes) { touched = marked see m.base marks at (length bytes) }
+
+-- A store of bytes is two stores, one behind the other. Where all of its addresses show memory, and frames suffice for it,
+-- so it is for each of the two.
+pub record Follow (see : ℕ → Option ℕ) (m : Pages) (at : ℕ) (first later : List ℕ) : Type 0 where
+  pub bytes : stored see m at (first ++ later) ≡ stored see (stored see m at first) (behind at (length first)) later
+  pub seen : all_pass (is_seen see m) at (length (first ++ later)) ≡ true
+      → (all_pass (is_seen see m) at (length first) ≡ true) × (all_pass (is_seen see (stored see m at first)) (behind at (length first)) (length later) ≡ true)
+  pub lacks : lacks_seen see m at (length (first ++ later)) ≡ false
+      → (lacks_seen see m at (length first) ≡ false) × (lacks_seen see (stored see m at first) (behind at (length first)) (length later) ≡ false)
+
+abbrev pub StoresFollow : Type 0
+StoresFollow = (see : ℕ → Option ℕ) (m : Pages) (at : ℕ) (first later : List ℕ) → at < 2 ^ 64 → Follow see m at first later
 
 -- where stores into several ranges don't lack frames together, the first doesn't, and the others don't behind it
 pub record Suffice (see : ℕ → Option ℕ) (m : Pages) (range : ByteRange) (ranges : List ByteRange) : Type 0 where

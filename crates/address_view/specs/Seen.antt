@@ -3,10 +3,11 @@ use Rattle.std.specs.Prelude.{ℕ, ◌≡◌, ◌+◌, ◌^◌, ◌<◌, ◌≤�
 use Rattle.uh_base.specs.Bytes.{first_refused}
 use Rattle.rv_step.specs.declared.bus.Access.{Access}
 use Rattle.rv_step.specs.declared.bus.Access.TheVariants.{Load, Store, Fetch}
-use Rattle.guest_memory.specs.Pages.{Pages, holds, rights_at, InPage}
+use Rattle.guest_memory.specs.Pages.{Pages, holds, rights_at, page_of, InPage}
 use Rattle.guest_memory.specs.declared.rights.Rights.{Rights}
 use Rattle.address_view.specs.Windows.{at_place}
 use Rattle.address_view.specs.declared.code.CodePage.{CodePage}
+use Rattle.address_view.specs.declared.run.PageRun.{PageRun}
 
 -- whether rights allow an access
 abbrev pub may : Access → Option Rights → Bool
@@ -26,6 +27,16 @@ is_seen see m at = at_place false (holds m) (see at)
 -- whether none of so many addresses, from one on, fails a test
 abbrev pub all_pass : (ℕ → Bool) → ℕ → ℕ → Bool
 all_pass test at len = is_none (first_refused test at len)
+
+-- so many addresses, from one on, that show places of one page of memory
+pub record IsRun (see : ℕ → Option ℕ) (m : Pages) (at : ℕ) (run : PageRun) : Type 0 where
+  pub some : 1 ≤ run.len
+  pub seen : (i : ℕ) → i < run.len → see (at + i) ≡ Some (run.place + i)
+  pub end : at + run.len ≤ 2 ^ 64
+  pub place_end : run.place + run.len < 2 ^ 64
+  pub inside : InPage m run.place run.len
+  pub page : run.page ≡ page_of m run.place
+  pub low : run.page < m.pages
 
 -- so many addresses that show one page of memory, from a place on, and allow an access
 pub record OnePage (see : ℕ → Option ℕ) (m : Pages) (kind : Access) (at width place : ℕ) : Type 0 where

@@ -1,5 +1,5 @@
 -- What stores make of memory, where `see` is the place that each address shows.
-use Rattle.std.specs.Prelude.{ℕ, zero, suc, ◌≡◌, ◌-◌, ◌/◌, ◌<◌, ◌&&◌, nat_lt, Bool, true, false, List, [], ◌∷◌, Option, Some, None, Result, Ok, Err, slice_get, slice_set}
+use Rattle.std.specs.Prelude.{ℕ, zero, suc, ◌≡◌, ◌-◌, ◌/◌, ◌&&◌, nat_lt, Bool, true, false, List, [], ◌∷◌, Option, Some, None, Result, Ok, Err, slice_get, slice_set}
 use Rattle.uh_base.specs.Bytes.{next, first_refused}
 use Rattle.uh_base.specs.Limits.{frame_limit}
 use Rattle.uh_base.specs.LittleEndian.{low_bytes}
@@ -66,7 +66,3 @@ TouchesGive (Err Memory) see old new at n = (lacks_seen see old at n ≡ false) 
 -- so many addresses, from one on, all show memory
 abbrev pub AllSeen : (ℕ → Option ℕ) → Pages → ℕ → ℕ → Type 0
 AllSeen see m at n = first_refused (is_seen see m) at n ≡ None
-
--- An address shows a place in this page of memory.
-abbrev pub PageSeen : (ℕ → Option ℕ) → Pages → ℕ → ℕ → Type 0
-PageSeen see m at page = (place : ℕ) × (see at ≡ Some place) × (page ≡ (place - m.base) / 4096) × (page < m.pages)

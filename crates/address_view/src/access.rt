@@ -1,7 +1,7 @@
 //! Loads through a view.
 #![tactic(auto)]
 
-ghost use Rattle.std.specs.Prelude.{◌≡◌, ◌<◌, ◌≤◌, ◌+◌, ◌%◌, ◌^◌, IsTrue, IfSome, IfOk};
+ghost use Rattle.std.specs.Prelude.{◌≡◌, ◌<◌, ◌≤◌, ◌+◌, ◌%◌, ◌^◌, IsTrue, IfSome, IfNone, IfOk, None, false};
 ghost use Rattle.rv_step.specs.declared.bus.Access.{Access};
 ghost use Rattle.rv_step.specs.Exec.{AreHalves};
 ghost use Rattle.uh_base.specs.Bytes.{is_width, loaded, first_refused, number_at};
@@ -9,6 +9,7 @@ ghost use Rattle.guest_memory.specs.Pages.{bytes_of, rights_at};
 ghost use Rattle.address_view.specs.Windows.{see, seen_bytes};
 ghost use Rattle.address_view.specs.Seen.{may, view_allows, OnePage};
 
+use crate::run::{behind, run_at};
 use crate::view::View;
 use guest_memory::{GuestMemory, Rights};
 use rv_step::Access;
@@ -71,30 +72,46 @@ pub(crate) fn next(at: u64) -> u64
     at.wrapping_add(1)
 }
 
-#[tactic(auto, unfolding(crate::specs::Seen::view_allows))]
-fn allows_at(memory: &GuestMemory, view: &View, at: u64, kind: Access) -> bool
-    ensures { result ≡ view_allows (see view.now) (rights_at memory.now) kind at }
+/// How many addresses of one run allow an access, from an address on, of at most so many; none where that address doesn't.
+#[tactic(auto, using(crate::proofs::RunLaws::run_allows, crate::proofs::RunLaws::run_refuses, crate::proofs::RunLaws::unseen_refuses))]
+fn allowed_run(memory: &GuestMemory, view: &View, at: u64, most: u64, kind: Access) -> Option<u64>
+    requires { 1 ≤ most }
+    ensures some { IfSome result (λ count. 1 ≤ count) }
+    ensures few { IfSome result (λ count. count ≤ most) }
+    ensures pass { IfSome result (λ count. first_refused (view_allows (see view.now) (rights_at memory.now) kind) at count ≡ None) }
+    ensures none { IfNone result (view_allows (see view.now) (rights_at memory.now) kind at ≡ false) }
 {
-    match view.translate(at) {
-        Some(place) => match memory.rights_at(place) {
-            Some(rights) => allows(rights, kind),
-            None => false,
-        },
-        None => false,
+    memory.whole();
+    let run = match run_at(memory, view, at, most) {
+        Some(run) => run,
+        None => return None,
+    };
+    match memory.rights_at(run.place) {
+        Some(rights) => {
+            if allows(rights, kind) {
+                Some(run.len)
+            } else {
+                None
+            }
+        }
+        None => None,
     }
 }
 
 /// The first of so many addresses that doesn't allow an access.
-#[tactic(auto, unfolding(uh_base::specs::Bytes::first_refused))]
 pub fn refused(memory: &GuestMemory, view: &View, at: u64, len: u64, kind: Access) -> Option<u64>
     ensures { result ≡ first_refused (view_allows (see view.now) (rights_at memory.now) kind) at len }
 {
     let mut here = at;
-    for _ in 0..len {
-        if !allows_at(memory, view, here, kind) {
-            return Some(here);
+    let mut left = len;
+    while left > 0 {
+        match allowed_run(memory, view, here, left, kind) {
+            Some(count) => {
+                here = behind(here, count);
+                left -= count;
+            }
+            None => return Some(here),
         }
-        here = next(here);
     }
     None
 }

@@ -9,7 +9,7 @@ ghost use Rattle.rv_step.specs.declared.bus.Access.{Access as AnyAccess};
 ghost use Rattle.address_view.specs.declared.view.Window.{Window as AnyWindow};
 ghost use Rattle.address_view.specs.Windows.{AreWindows, ShowsOnce, see, shown_at, seen_bytes};
 ghost use Rattle.address_view.specs.Seen.{all_pass, view_allows, is_seen};
-ghost use Rattle.address_view.specs.Laws.{AllPass, PlacesDecide, OthersStay, TouchedSuffice, CodeStays, RangesSuffice, RangesAreMarked, SameMarked, StoredOver};
+ghost use Rattle.address_view.specs.Laws.{AllPass, PlacesDecide, OthersStay, TouchedSuffice, CodeStays, RangesSuffice, RangesAreMarked, SameMarked, StoredOver, StoresFollow};
 
 use guest_memory::{bytes_are_put, marks_are_put};
 
@@ -65,6 +65,11 @@ pub fn touched_pages_suffice()
     ensures sure { TouchedSuffice }
     ensures marked { SameMarked }
     ensures over { StoredOver }
+{}
+
+/// Bytes may be stored in two stores, one behind the other.
+pub fn stores_follow()
+    ensures { StoresFollow }
 {}
 
 /// Where `lacks_after` finds frames enough for stores into several ranges, they may be touched or stored into one after

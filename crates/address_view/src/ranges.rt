@@ -2,7 +2,7 @@
 #![tactic(auto)]
 
 ghost use Rattle.guest_memory.specs.Runs.{bytes_from, with_bytes};
-ghost use Rattle.std.specs.Prelude.{◌≡◌, true, IfOk, OnOk, OnErr, length, if◌then◌else◌};
+ghost use Rattle.std.specs.Prelude.{◌≡◌, ◌≤◌, true, false, IfSome, IfNone, IfOk, OnOk, OnErr, length, if◌then◌else◌};
 ghost use Rattle.uh_base.specs.Bytes.{first_refused};
 ghost use Rattle.rv_step.specs.declared.bus.Access.{Access};
 ghost use Rattle.guest_memory.specs.Pages.{bytes_of, rights_at};
@@ -10,7 +10,8 @@ ghost use Rattle.address_view.specs.Windows.{see, seen_bytes};
 ghost use Rattle.address_view.specs.Seen.{all_pass, is_seen, view_allows};
 ghost use Rattle.address_view.specs.Stored.{stored, all_touched, StoreGives, TouchesGive};
 
-use crate::access::{byte_at, next, refused};
+use crate::access::refused;
+use crate::run::{behind, run_at, seen_run};
 use crate::store::{put_all, store_all, touch_pages};
 use crate::view::View;
 use guest_memory::{GuestMemory, PutEnd, bytes_are_put};
@@ -33,31 +34,41 @@ pub fn is_seen(memory: &GuestMemory, view: &View, at: u64, len: u64) -> bool
 }
 
 /// The first of so many addresses that doesn't show memory.
-#[tactic(auto, unfolding(uh_base::specs::Bytes::first_refused))]
 fn unseen(memory: &GuestMemory, view: &View, at: u64, len: u64) -> Option<u64>
     ensures { result ≡ first_refused (is_seen (see view.now) memory.now) at len }
 {
     let mut here = at;
-    for _ in 0..len {
-        if !is_seen_at(memory, view, here) {
-            return Some(here);
+    let mut left = len;
+    while left > 0 {
+        match run_at(memory, view, here, left) {
+            Some(found) => {
+                here = behind(here, found.len);
+                left -= found.len;
+            }
+            None => return Some(here),
         }
-        here = next(here);
     }
     None
 }
 
-fn is_seen_at(memory: &GuestMemory, view: &View, at: u64) -> bool
-    ensures { result ≡ is_seen (see view.now) memory.now at }
+/// The bytes that are seen from an address on as far as they lie in one page, at most so many, whatever the rights there;
+/// none where the address shows no memory.
+#[tactic(auto, using(crate::proofs::RunLaws::run_passes, crate::proofs::RunLaws::part_is, crate::proofs::RunLaws::part_long))]
+pub fn seen_part<'m>(memory: &'m GuestMemory, view: &View, at: u64, most: u64) -> Option<&'m [u8]>
+    requires { 1 ≤ most }
+    ensures bytes { IfSome result (λ part. part.now ≡ bytes_from (seen_bytes (see view.now) (bytes_of memory.now)) at (length part.now)) }
+    ensures seen { IfSome result (λ part. all_pass (is_seen (see view.now) memory.now) at (length part.now) ≡ true) }
+    ensures some { IfSome result (λ part. 1 ≤ length part.now) }
+    ensures few { IfSome result (λ part. length part.now ≤ most) }
+    ensures none { IfNone result (is_seen (see view.now) memory.now at ≡ false) }
 {
-    match view.translate(at) {
-        Some(place) => memory.page_at(place).is_some(),
-        None => false,
+    match run_at(memory, view, at, most) {
+        Some(found) => Some(memory.part(found.place, found.len)),
+        None => None,
     }
 }
 
 /// So many bytes from an address on, each of which is seen at a page of memory, whatever its rights.
-#[tactic(auto, unfolding(guest_memory::specs::Runs::bytes_from))]
 pub fn load_bytes(
     alloc: Global,
     memory: &GuestMemory,
@@ -68,11 +79,14 @@ pub fn load_bytes(
     requires { all_pass (is_seen (see view.now) memory.now) at len ≡ true }
     ensures { IfOk result (λ bytes. bytes.items ≡ bytes_from (seen_bytes (see view.now) (bytes_of memory.now)) at len) }
 {
-    let mut bytes = Vec::new(alloc);
+    let mut bytes = Vec::with_capacity(alloc, len as usize)?;
     let mut here = at;
-    for _ in 0..len {
-        bytes.push(byte_at(memory, view, here))?;
-        here = next(here);
+    let mut left = len;
+    while left > 0 {
+        let run = seen_run(memory, view, here, left);
+        bytes.extend_from_slice(memory.part(run.place, run.len))?;
+        here = behind(here, run.len);
+        left -= run.len;
     }
     Ok(bytes)
 }

@@ -10,12 +10,13 @@ ghost use Rattle.guest_memory.specs.Lists.{count_true};
 ghost use Rattle.guest_memory.specs.Pages.{bytes_of, rights_at};
 ghost use Rattle.guest_memory.specs.Changes.{TouchedBesides};
 ghost use Rattle.address_view.specs.Windows.{see};
-ghost use Rattle.address_view.specs.Seen.{is_seen, view_allows, OnePage};
-ghost use Rattle.address_view.specs.Stored.{store_seen, stored, put_seen, mark_seen, marked, is_marked, all_marked, lacks_seen, all_touched, StoreGives, TouchesGive, AllSeen, PageSeen};
+ghost use Rattle.address_view.specs.Seen.{is_seen, view_allows, OnePage, IsRun};
+ghost use Rattle.address_view.specs.Stored.{store_seen, stored, marked, lacks_seen, all_touched, StoreGives, TouchesGive, AllSeen};
 
-use crate::access::{next, one_page, refused};
+use crate::access::{one_page, refused};
+use crate::run::{PageRun, behind, seen_run};
 use crate::view::View;
-use guest_memory::{GuestMemory, PutEnd};
+use guest_memory::{GuestMemory, PutEnd, parts_are_put};
 use rv_step::{Access, BusEnd};
 use std::alloc::AllocError;
 use uh_base::{FRAME_LIMIT, write_number};
@@ -23,57 +24,38 @@ use uh_base::{FRAME_LIMIT, write_number};
 /// The most pages that a memory has.
 const MOST_PAGES: usize = 1048576;
 
-/// The page of the place that an address shows, counted from the base of memory.
-fn page_seen(memory: &GuestMemory, view: &View, at: u64) -> u32
-    requires { is_seen (see view.now) memory.now at ≡ true }
-    ensures { PageSeen (see view.now) memory.now at result }
-{
-    let place = match view.translate(at) {
-        Some(place) => place,
-        None => unreachable!(),
-    };
-    match memory.page_at(place) {
-        Some(page) => page,
-        None => unreachable!(),
-    }
-}
-
-/// Whether the page of the place that an address shows is touched.
-#[tactic(auto, using(crate::proofs::LoopLemmas::touched_there))]
-fn is_touched_at(memory: &GuestMemory, view: &View, at: u64) -> bool
-    requires { is_seen (see view.now) memory.now at ≡ true }
-    ensures { result ≡ is_marked memory.now.base memory.now.touched (see view.now at) }
-{
-    memory.is_touched(page_seen(memory, view, at))
-}
-
 /// Whether each page that so many addresses show is touched.
-#[tactic(auto, unfolding(crate::specs::Stored::all_marked))]
+#[tactic(auto, using(crate::proofs::RunLaws::run_all))]
 fn are_all_touched(memory: &GuestMemory, view: &View, at: u64, len: u64) -> bool
     requires { AllSeen (see view.now) memory.now at len }
     ensures { result ≡ all_touched (see view.now) memory.now at len }
 {
+    memory.whole();
     let mut here = at;
-    for _ in 0..len {
-        if !is_touched_at(memory, view, here) {
+    let mut left = len;
+    while left > 0 {
+        let run = seen_run(memory, view, here, left);
+        if !memory.is_touched(run.page) {
             return false;
         }
-        here = next(here);
+        here = behind(here, run.len);
+        left -= run.len;
     }
     true
 }
 
-/// Marks the page of the place that an address shows, and says how many marks that adds.
-#[tactic(auto, using(crate::proofs::LoopLemmas::marked_already, crate::proofs::LoopLemmas::marked_anew))]
-fn mark(memory: &GuestMemory, view: &View, marks: &mut [bool], at: u64) -> u64
-    requires allowed { is_seen (see view.now) memory.now at ≡ true }
+/// Marks the page of a run, and says how many marks that adds.
+fn mark(memory: &GuestMemory, view: &View, marks: &mut [bool], at: u64, run: PageRun) -> u64
+    requires run { IsRun (see view.now) memory.now at run }
     requires long { length marks.old ≡ memory.now.pages }
-    ensures marks { marks.new ≡ mark_seen memory.now.base marks.old (see view.now at) }
+    ensures marks { marks.new ≡ marked (see view.now) memory.now.base marks.old at run.len }
     ensures long { length marks.new ≡ memory.now.pages }
     ensures count { count_true marks.new ≡ count_true marks.old + result }
     ensures one { result ≤ 1 }
 {
-    let page = page_seen(memory, view, at) as usize;
+    memory.whole();
+    let _ = view;
+    let page = run.page as usize;
     if marks[page] {
         return 0;
     }
@@ -82,7 +64,6 @@ fn mark(memory: &GuestMemory, view: &View, marks: &mut [bool], at: u64) -> u64
 }
 
 /// How many pages are marked once those that so many addresses show are marked besides; so many are before.
-#[tactic(auto, unfolding(crate::specs::Stored::marked))]
 pub(crate) fn count_marks(
     memory: &GuestMemory,
     view: &View,
@@ -101,9 +82,12 @@ pub(crate) fn count_marks(
     memory.whole();
     let mut count = before;
     let mut here = at;
-    for _ in 0..len {
-        count += mark(memory, view, marks, here);
-        here = next(here);
+    let mut left = len;
+    while left > 0 {
+        let run = seen_run(memory, view, here, left);
+        count += mark(memory, view, marks, here, run);
+        here = behind(here, run.len);
+        left -= run.len;
     }
     count
 }
@@ -145,16 +129,17 @@ fn lacks_frames(memory: &GuestMemory, view: &View, at: u64, len: u64) -> bool
     count_after(memory, view, at, len) > u64::from(FRAME_LIMIT)
 }
 
-/// Touches the page of the place that an address shows.
-fn touch_at(memory: &mut GuestMemory, view: &View, at: u64) -> Result<(), AllocError>
-    requires allowed { is_seen (see view.now) memory.old at ≡ true }
-    requires few { count_true (mark_seen memory.old.base memory.old.touched (see view.now at)) ≤ frame_limit }
-    ensures ok { OnOk result (memory.new ≡ record memory.old { touched = mark_seen memory.old.base memory.old.touched (see view.now at) }) }
-    ensures err { OnErr result ((is_marked memory.old.base memory.old.touched (see view.now at) ≡ false) × TouchedBesides memory.old memory.new) }
+/// Touches the page of a run.
+#[tactic(auto, using(crate::proofs::LoopLemmas::run_has, crate::proofs::LoopLemmas::run_lacks))]
+fn touch_run(memory: &mut GuestMemory, view: &View, at: u64, run: PageRun) -> Result<(), AllocError>
+    requires run { IsRun (see view.now) memory.old at run }
+    requires few { count_true (marked (see view.now) memory.old.base memory.old.touched at run.len) ≤ frame_limit }
+    ensures ok { OnOk result (memory.new ≡ record memory.old { touched = marked (see view.now) memory.old.base memory.old.touched at run.len }) }
+    ensures err { OnErr result ((all_touched (see view.now) memory.old at run.len ≡ false) × TouchedBesides memory.old memory.new) }
 {
     memory.whole();
-    let page = page_seen(memory, view, at);
-    match memory.reserve(page, 1) {
+    let _ = view;
+    match memory.reserve(run.page, 1) {
         Ok(()) => Ok(()),
         Err(PutEnd::Memory) => Err(AllocError),
         Err(PutEnd::Outside) => unreachable!(),
@@ -170,44 +155,51 @@ fn touch_all(memory: &mut GuestMemory, view: &View, at: u64, len: u64) -> Result
     ensures err { OnErr result ((all_touched (see view.now) memory.old at len ≡ false) × TouchedBesides memory.old memory.new) }
 {
     let mut here = at;
-    for _ in 0..len {
-        match touch_at(memory, view, here) {
+    let mut left = len;
+    while left > 0 {
+        let run = seen_run(memory, view, here, left);
+        match touch_run(memory, view, here, run) {
             Ok(()) => {}
             Err(end) => return Err(end),
         }
-        here = next(here);
+        here = behind(here, run.len);
+        left -= run.len;
     }
     Ok(())
 }
 
-/// Puts a byte at the place that an address shows, whose page is touched.
-fn put_at(memory: &mut GuestMemory, view: &View, at: u64, byte: u8)
-    requires allowed { is_seen (see view.now) memory.old at ≡ true }
-    requires touched { is_marked memory.old.base memory.old.touched (see view.now at) ≡ true }
-    ensures { memory.new ≡ put_seen memory.old byte (see view.now at) }
+/// Puts bytes at the places of a run, whose page is touched.
+fn put_run(memory: &mut GuestMemory, view: &View, at: u64, run: PageRun, bytes: &[u8])
+    requires run { IsRun (see view.now) memory.old at run }
+    requires long { length bytes.now ≡ run.len }
+    requires touched { all_touched (see view.now) memory.old at run.len ≡ true }
+    ensures { memory.new ≡ stored (see view.now) memory.old at bytes.now }
 {
-    match view.translate(at) {
-        Some(place) => match memory.put(place, byte) {
-            Ok(()) => {}
-            Err(PutEnd::Memory) => unreachable!(),
-            Err(PutEnd::Outside) => unreachable!(),
-            Err(PutEnd::Frames) => unreachable!(),
-        },
-        None => unreachable!(),
+    memory.whole();
+    parts_are_put();
+    let _ = view;
+    match memory.put_part(run.place, bytes) {
+        Ok(()) => {}
+        Err(PutEnd::Memory) => unreachable!(),
+        Err(PutEnd::Outside) => unreachable!(),
+        Err(PutEnd::Frames) => unreachable!(),
     }
 }
 
 /// Puts bytes at the places that addresses show, whose pages are touched.
-#[tactic(auto, unfolding(crate::specs::Stored::stored))]
 pub(crate) fn put_all(memory: &mut GuestMemory, view: &View, at: u64, bytes: &[u8])
     requires allowed { AllSeen (see view.now) memory.old at (length bytes.now) }
     requires touched { all_touched (see view.now) memory.old at (length bytes.now) ≡ true }
     ensures { memory.new ≡ stored (see view.now) memory.old at bytes.now }
 {
     let mut here = at;
-    for byte in bytes {
-        put_at(memory, view, here, *byte);
-        here = next(here);
+    let mut rest = bytes;
+    while rest.len() > 0 {
+        let run = seen_run(memory, view, here, rest.len() as u64);
+        let (part, later) = rest.split_at(run.len as usize);
+        put_run(memory, view, here, run, part);
+        here = behind(here, run.len);
+        rest = later;
     }
 }
 

@@ -1,12 +1,15 @@
 -- A string read unit by unit.
-use Rattle.std.proofs.Common.{◌≡◌, ◌≢◌, ℕ, zero, suc, ◌+◌, ◌%◌, ◌^◌, Bool, true, false, List, [], ◌∷◌, ◌++◌, Option, Some, None, refl, sym, ap, ◌∙◌, arith, append-nil, append_assoc}
-use Rattle.std.specs.Prelude.{◌==◌, if◌then◌else◌}
+use Rattle.std.proofs.Common.{◌≡◌, ◌≢◌, ℕ, zero, suc, ◌+◌, ◌-◌, ◌*◌, ◌%◌, ◌^◌, ◌≤◌, Bool, true, false, List, [], ◌∷◌, ◌++◌, Option, Some, None, refl, sym, ap, ◌∙◌, arith, append-nil, append_assoc, length, take, drop, get_or}
+use Rattle.std.specs.Prelude.{◌==◌, is_none, if◌then◌else◌}
 use Rattle.std.specs.Option.{option_map}
 use Rattle.std.proofs.lemmas.Bool.Decides.{nat_tests}
-use Rattle.uh_base.specs.Bytes.{next}
-use Rattle.guest_memory.specs.Pages.{Pages}
+use Rattle.uh_base.specs.Bytes.{next, first_refused, number_at}
+use Rattle.guest_memory.specs.Runs.{bytes_from}
+use Rattle.guest_memory.specs.Pages.{Pages, bytes_of}
+use Rattle.address_view.specs.Windows.{see, seen_bytes}
+use Rattle.address_view.specs.Seen.{is_seen}
 use Rattle.address_view.specs.declared.view.Window.{Window}
-use Rattle.console_services.specs.Strings.{string_at, unit_is_seen, unit_at}
+use Rattle.console_services.specs.Strings.{string_at, unit_is_seen, unit_at, SeenFrom}
 
 abbrev pub behind : List ℕ → Option (List ℕ) → Option (List ℕ)
 behind units rest = option_map (λ (more : List ℕ). units ++ more) rest
@@ -52,3 +55,53 @@ module _ (view : List Window) (m : Pages) (at left n : ℕ) (units : List ℕ) (
 pub runs_out : (view : List Window) (m : Pages) (at left : ℕ) (units : List ℕ) (whole : Option (List ℕ)) → left ≡ zero → behind units (string_at left view m at) ≡ whole → None ≡ whole
 unfolding string_at
 runs_out view m at left units whole none so_far = rw none at so_far
+
+-- ---- bytes that are seen from an address on
+
+pub none_seen : (view : List Window) (m : Pages) (at : ℕ) (bytes : List ℕ) → bytes ≡ [] → SeenFrom view m at bytes
+unfolding bytes_from first_refused
+none_seen view m at bytes e = rw e (refl, refl)
+
+unrefused : (b : Bool) (at : ℕ) (rest : Option ℕ) → is_none (if b then rest else Some at) ≡ true → (b ≡ true) × (is_none rest ≡ true)
+unrefused true at rest e = (refl, e)
+unrefused false at rest e = grind arith
+
+-- the unit at their head, and those behind it
+part_head : (view : List Window) (m : Pages) (at a b : ℕ) (rest : List ℕ) → SeenFrom view m at (a ∷ b ∷ rest) → (unit_is_seen view m at ≡ true) × (unit_at view m at ≡ a + 256 * b) × SeenFrom view m (next (next at)) rest
+unfolding bytes_from first_refused number_at
+part_head view m at a b rest s =
+    let f = seen_bytes (see view) (bytes_of m) in
+    let e : (a ∷ b ∷ rest) ≡ (f at ∷ f (next at) ∷ bytes_from f (next (next at)) (length rest)) = s.0 in
+    let p : a ≡ f at = cc in
+    let q : b ≡ f (next at) = cc in
+    let r : rest ≡ bytes_from f (next (next at)) (length rest) = cc in
+    let u = unrefused (is_seen (see view) m at) at (first_refused (is_seen (see view) m) (next at) (suc (length rest))) s.1 in
+    let v = unrefused (is_seen (see view) m (next at)) (next at) (first_refused (is_seen (see view) m) (next (next at)) (length rest)) u.1 in
+    (rw (u.0, v.0) refl, omega (arith, p, q), (r, v.1))
+
+pub part_unit : (view : List Window) (m : Pages) (at : ℕ) (bytes : List ℕ) (d e : ℕ) → 2 ≤ length bytes → SeenFrom view m at bytes
+    → (unit_is_seen view m at ≡ true) × (unit_at view m at ≡ get_or bytes 0 d + 256 * get_or bytes 1 e) × SeenFrom view m ((at + 2) % 2 ^ 64) (drop 2 bytes)
+part_unit view m at [] d e long s = absurd (omega arith)
+part_unit view m at (a ∷ []) d e long s = absurd (omega arith)
+part_unit view m at (a ∷ b ∷ rest) d e long s =
+    let h = part_head view m at a b rest s in
+    (h.0, h.1, rw (← (two_behind at)) h.2)
+
+take_all : (xs : List ℕ) → take (length xs) xs ≡ xs
+take_all [] = refl
+take_all (x ∷ xs) = ap (λ (ys : List ℕ). x ∷ ys) (take_all xs)
+
+pub later_seen : (view : List Window) (m : Pages) (at : ℕ) (bytes : List ℕ) → 2 ≤ length bytes → SeenFrom view m at bytes → SeenFrom view m ((at + 2) % 2 ^ 64) (take (length bytes - 2) (drop 2 bytes))
+later_seen view m at [] long s = absurd (omega arith)
+later_seen view m at (a ∷ []) long s = absurd (omega arith)
+later_seen view m at (a ∷ b ∷ rest) long s =
+    let h = part_head view m at a b rest s in
+    let n : suc (suc (length rest)) - 2 ≡ length rest = omega arith in
+    rw (← (two_behind at), n, take_all rest) h.2
+
+begins_with : (o : Option (List ℕ)) → behind [] o ≡ o
+begins_with None = refl
+begins_with (Some units) = refl
+
+pub begins : (units : List ℕ) (o : Option (List ℕ)) → units ≡ [] → behind units o ≡ o
+begins units o e = rw e (begins_with o)

@@ -2,8 +2,6 @@
 #![tactic(auto)]
 
 mod mode;
-#[cfg(test)]
-mod tests;
 mod text;
 
 pub use mode::set_mode;

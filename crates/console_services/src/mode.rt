@@ -1,4 +1,5 @@
-//! The console's mode.
+//! The console's mode. QueryMode (slot 61, UEFI 2.10, 12.4.5) isn't built: it answers UNSUPPORTED, as each slot does
+//! that isn't (docs/DECISIONS.md).
 ghost use Rattle.std.specs.Prelude.{◌≡◌};
 ghost use Rattle.console_services.specs.Console.{set_mode};
 

@@ -1,13 +1,13 @@
 //! Strings that a guest gives the console.
-ghost use Rattle.std.specs.Prelude.{◌≡◌, ◌<◌, ◌≤◌, ◌-◌, ◌+◌, ◌*◌, IfOk, IfSome, Some, None, if◌then◌else◌, option_map};
+ghost use Rattle.std.specs.Prelude.{◌≡◌, ◌<◌, ◌≤◌, ◌-◌, ◌+◌, ◌*◌, ◌%◌, ◌^◌, IfOk, IfSome, Some, None, if◌then◌else◌, option_map};
 ghost use Rattle.guest_memory.specs.Pages.{bytes_of};
 ghost use Rattle.address_view.specs.Windows.{see, seen_bytes};
 ghost use Rattle.address_view.specs.Seen.{is_seen};
 ghost use Rattle.console_services.specs.Console.{output_string, test_string, string_given};
-ghost use Rattle.console_services.specs.Strings.{string_at, unit_is_seen, unit_at};
+ghost use Rattle.console_services.specs.Strings.{string_at, unit_is_seen, unit_at, SeenFrom};
 ghost use Rattle.console_services.specs.Views.{reply_of};
 
-use address_view::View;
+use address_view::{View, seen_part};
 use guest_memory::GuestMemory;
 use std::alloc::{AllocError, Global};
 use system_tables::console_text;
@@ -15,6 +15,9 @@ use uh_base::{EfiStatus, Text};
 
 /// The most units of a string, with the one of 0 that ends it.
 const UNITS: u32 = 4096;
+
+/// The most bytes of a string.
+const MOST_BYTES: u64 = 2 * UNITS as u64;
 
 /// What a service of the console answers.
 #[derive(Debug, Drop)]
@@ -46,6 +49,41 @@ fn seen_unit(view: &View, memory: &GuestMemory, at: u64) -> Option<u16>
     Some(u16::from_le_bytes([low, high]))
 }
 
+/// A unit that is seen at an address, and the bytes behind it; `part` is seen from the address on. A unit that doesn't lie in
+/// `part` is read byte by byte.
+#[tactic(auto, using(crate::proofs::StringLemmas::none_seen, crate::proofs::StringLemmas::part_unit))]
+fn unit_of<'m>(
+    view: &View,
+    memory: &GuestMemory,
+    at: u64,
+    part: &'m [u8],
+) -> Option<(u16, &'m [u8])>
+    requires { SeenFrom view.now memory.now at part.now }
+    ensures unit { option_map (λ read. read.0) result ≡ (if unit_is_seen view.now memory.now at then Some (unit_at view.now memory.now at) else None) }
+    ensures later { IfSome result (λ read. SeenFrom view.now memory.now ((at + 2) % 2 ^ 64) read.1.now) }
+{
+    if part.len() < 2 {
+        let unit = seen_unit(view, memory, at)?;
+        return Some((unit, &part[..0]));
+    }
+    Some((u16::from_le_bytes([part[0], part[1]]), &part[2..]))
+}
+
+/// Bytes that are seen from an address on: `part` as long as a unit is left of it, and then those of a page.
+#[tactic(auto, using(crate::proofs::StringLemmas::none_seen))]
+fn part_at<'m>(view: &View, memory: &'m GuestMemory, at: u64, part: &'m [u8]) -> &'m [u8]
+    requires { SeenFrom view.now memory.now at part.now }
+    ensures { SeenFrom view.now memory.now at result.now }
+{
+    if part.len() >= 2 {
+        return part;
+    }
+    match seen_part(memory, view, at, MOST_BYTES) {
+        Some(found) => found,
+        None => &part[..0],
+    }
+}
+
 /// The units of a string, without the one of 0 that ends it.
 fn string_at(
     alloc: Global,
@@ -57,12 +95,17 @@ fn string_at(
 {
     let mut units = Vec::new(alloc);
     let mut here = at;
+    let mut part: &[u8] = &[];
     for i in 0..UNITS {
-        match seen_unit(view, memory, here) {
+        let (unit, later) = match unit_of(view, memory, here, part_at(view, memory, here, part)) {
+            Some(read) => read,
             None => return Ok(None),
-            Some(0) => return Ok(Some(units)),
-            Some(unit) => units.push(unit)?,
+        };
+        if unit == 0 {
+            return Ok(Some(units));
         }
+        units.push(unit)?;
+        part = later;
         here = here.wrapping_add(2);
     }
     Ok(None)

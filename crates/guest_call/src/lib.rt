@@ -4,14 +4,9 @@
 mod answer;
 mod arguments;
 mod check;
-mod frames;
 mod output;
 
 pub use answer::Answer;
 pub use arguments::{argument, low_word};
 pub use check::{can_read, can_read_buffer, can_write, can_write_buffer, number_seen};
-pub use frames::lacks_cleared;
 pub use output::{can_write_optional, optional, put_number, put_output};
-
-#[cfg(test)]
-mod tests;

@@ -4,3 +4,4 @@ pub mod RunLemmas
 pub mod NumberLemmas
 pub mod PartLemmas
 pub mod TouchedLemmas
+pub mod PartLaws

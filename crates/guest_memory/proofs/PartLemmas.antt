@@ -34,7 +34,7 @@ read_out m xs base at n last whole x b inside e =
     let k : last - (at - base) ≡ n = omega arith in
     rw (k, x, b) (read m n at (at - m.base) (omega arith) (omega arith) long (omega arith))
 
-over_step : (xs ys : List ℕ) (i b : ℕ) → i < length xs → written_over xs i (b ∷ ys) ≡ written_over (set xs i b) (i + 1) ys
+pub over_step : (xs ys : List ℕ) (i b : ℕ) → i < length xs → written_over xs i (b ∷ ys) ≡ written_over (set xs i b) (i + 1) ys
 over_step xs ys i b below =
     let n : i + 1 ≡ suc i = omega arith in
     let t : take (i + 1) (set xs i b) ≡ take i xs ++ (b ∷ []) = ap (λ k. take k (set xs i b)) n ∙ take-suc-set xs i b below in

@@ -1,5 +1,5 @@
 -- What the calls of a memory make of it.
-use Rattle.std.specs.Prelude.{ℕ, zero, suc, ◌≡◌, ◌+◌, ◌-◌, ◌*◌, ◌/◌, ◌%◌, ◌<◌, ◌≤◌, ◌==◌, ◌&&◌, ◌||◌, not, nat_lt, nat_le, Bool, true, false, List, length, Result, Ok, Err, slice_set}
+use Rattle.std.specs.Prelude.{ℕ, zero, suc, ◌≡◌, ◌+◌, ◌-◌, ◌*◌, ◌/◌, ◌%◌, ◌<◌, ◌≤◌, ◌==◌, ◌&&◌, ◌||◌, not, nat_lt, nat_le, Bool, true, false, List, [], ◌∷◌, length, Result, Ok, Err, slice_set}
 use Rattle.uh_base.specs.Bytes.{next}
 use Rattle.uh_base.specs.Limits.{frame_limit}
 use Rattle.guest_memory.specs.Lists.{filled, written_over, count_true}
@@ -49,6 +49,11 @@ NumberGives (Err Memory) old new at width value = (lacks old (page_of old at) �
 -- the memory with bytes put in one page
 abbrev pub put_part : Pages → ℕ → List ℕ → Pages
 put_part m at bytes = record m { bytes = written_over m.bytes (at - m.base) bytes; touched = slice_set m.touched (page_of m at) true }
+
+-- the memory with bytes put, one after another
+unfoldable pub put_bytes : Pages → ℕ → List ℕ → Pages
+put_bytes m at [] = m
+put_bytes m at (byte ∷ bytes) = put_bytes (put_to m at byte) (next at) bytes
 
 -- A put of bytes in one page of memory that ends so leads from old to new.
 abbrev pub PartGives : {X : Type 0} → Result X PutEnd → Pages → Pages → ℕ → List ℕ → Type 0

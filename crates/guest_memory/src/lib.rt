@@ -6,6 +6,6 @@ mod memory;
 mod parts;
 mod rights;
 
-pub use laws::{bytes_are_put, marks_are_put, only_marks_are_added};
+pub use laws::{bytes_are_put, marks_are_put, only_marks_are_added, parts_are_put};
 pub use memory::GuestMemory;
 pub use rights::{PutEnd, Rights};

@@ -377,6 +377,15 @@ impl GuestMemory {
         number_of(&self.bytes[first..first + width as usize])
     }
 
+    /// So many bytes in one page.
+    pub fn part(&self, at: u64, len: u64) -> &[u8]
+        requires { InPage self.now at len }
+        ensures { result.now ≡ bytes_from (bytes_of self.now) at len }
+    {
+        let first = (at - self.base) as usize;
+        &self.bytes[first..first + len as usize]
+    }
+
     /// Copies bytes out of one page.
     pub fn read_part(&self, at: u64, to: &mut [u8])
         requires { InPage self.now at (length to.old) }
@@ -452,6 +461,3 @@ impl GuestMemory {
         write_low(&mut self.bytes, (at - self.base) as usize, width, value);
     }
 }
-
-#[cfg(test)]
-mod tests;

@@ -10,11 +10,9 @@ use Rattle.page_alloc.specs.Calls.{owns, may_be_given, allocation}
 use Rattle.pool_alloc.specs.declared.block.Block.{Block}
 use Rattle.pool_alloc.specs.declared.span.PageSpan.{PageSpan}
 use Rattle.pool_alloc.specs.declared.refusal.PoolRefusal.TheVariants.{Invalid}
-use Rattle.pool_alloc.specs.Blocks.{rounded, is_large, pages_for, lowest}
-use Rattle.pool_alloc.specs.Pool.{BlockPage, Placed, Taken, pages_of, gap_on, put_on, put_first, begins_at, without, left_of, take_on, take_first, InOrder, AreBlocks, IsPage, IsPool, Together}
-use Rattle.pool_alloc.specs.Calls.{Done, on_pages, on_page, gap_for, pool_allocation, span_at, span_beside, pages_allocated, on_taken, pool_freeing, InRam}
-use Rattle.pool_alloc.specs.Laws.{IsLowest, LowestIsLowest}
-use Rattle.memory_services.specs.PoolServices.{BytesInRam, ZeroedInRam}
+use Rattle.pool_alloc.specs.Blocks.{rounded, is_large, pages_for}
+use Rattle.pool_alloc.specs.Pool.{BlockPage, Placed, Taken, pages_of, put_first, begins_at, without, left_of, take_on, take_first, InOrder, AreBlocks, IsPage, IsPool, Together}
+use Rattle.pool_alloc.specs.Calls.{Done, on_pages, on_page, gap_for, pool_allocation, span_at, span_beside, pages_allocated, on_taken, pool_freeing, InRam, BlockInRam}
 
 both : (a b : Bool) → (a && b) ≡ true → (a ≡ true) × (b ≡ true)
 both true b e = (refl, e)
@@ -22,7 +20,7 @@ both false b e = grind arith
 
 -- ---- pages that are the pool's
 
-owned_lie : (m : PageList) (start count : ℕ) → Whole m → start % 4096 ≡ 0 → owns m Pool start count ≡ true → BytesInRam m start (4096 * count)
+owned_lie : (m : PageList) (start count : ℕ) → Whole m → start % 4096 ≡ 0 → owns m Pool start count ≡ true → BlockInRam start (4096 * count) m
 unfolding owns all_from
 owned_lie m start count whole on e =
     let low = both (nat_le m.base start) _ e in
@@ -37,55 +35,7 @@ some_pages [] are = absurd are
 some_pages (block ∷ blocks) (inl is) = let large = is.large in let h : 2048 < block.size = grind (arith, nat_tests) in omega (arith, h)
 some_pages (block ∷ blocks) (inr are) = let h = are.order.1 in omega (arith, h)
 
--- ---- a gap
-
-room_ends : (blocks : List Block) (size offset : ℕ) → LowestIsLowest → 0 < size → lowest blocks size ≡ Some offset → offset + size ≤ 4096
-room_ends blocks size offset law some e =
-    let is : IsLowest blocks size (Some offset) = subst (λ (o : Option ℕ). IsLowest blocks size o) e (law blocks size some) in
-    let h = (both (nat_le (offset + size) 4096) _ is.0).0 in
-    grind (arith, nat_tests)
-
-chosen : (b : Bool) (o : Option ℕ) (offset : ℕ) → cond b o None ≡ Some offset → o ≡ Some offset
-chosen true o offset e = e
-chosen false o offset e = absurd (cc)
-
-gap_lowest : (page : BlockPage) (memory_type size offset : ℕ) → gap_on page memory_type size ≡ Some offset → lowest page.blocks size ≡ Some offset
-unfolding gap_on
-gap_lowest page memory_type size offset e = chosen _ (lowest page.blocks size) offset e
-
-on_gap : (m : PageList) (page : BlockPage) (pages : List BlockPage) (memory_type size : ℕ) → LowestIsLowest → 0 < size → Whole m → IsPage page → owns m Pool page.start (pages_of page.blocks) ≡ true
-    → (o : Option ℕ) → gap_on page memory_type size ≡ o → (others : Option Placed) → ((p : Placed) → others ≡ Some p → BytesInRam m p.at size)
-    → (placed : Placed) → put_on page pages size o others ≡ Some placed → BytesInRam m placed.at size
-on_gap m page pages memory_type size law some whole is owned (Some offset) g others rest placed e =
-    let at : page.start + offset ≡ placed.at = cc in
-    let lie = owned_lie m page.start (pages_of page.blocks) whole is.on_page owned in
-    let low = lie.0 in
-    let high = lie.1 in
-    let many = some_pages page.blocks is.blocks in
-    let end = room_ends page.blocks size offset law some (gap_lowest page memory_type size offset g) in
-    (omega (arith, at, low), omega (arith, at, high, many, end))
-on_gap m page pages memory_type size law some whole is owned None g None rest placed e = absurd (cc)
-on_gap m page pages memory_type size law some whole is owned None g (Some p) rest placed e =
-    let at : p.at ≡ placed.at = cc in
-    subst (λ (k : ℕ). BytesInRam m k size) at (rest p refl)
-
-placed_lies : (pool : List BlockPage) (m : PageList) (memory_type size : ℕ) → LowestIsLowest → 0 < size → Whole m → IsPool pool → Together pool m
-    → (placed : Placed) → put_first pool memory_type size ≡ Some placed → BytesInRam m placed.at size
-unfolding put_first
-placed_lies [] m memory_type size law some whole is t placed e = absurd (cc)
-placed_lies (page ∷ pages) m memory_type size law some whole is t placed e =
-    on_gap m page pages memory_type size law some whole is.0 t.0 (gap_on page memory_type size) refl (put_first pages memory_type size) (placed_lies pages m memory_type size law some whole is.2 t.1) placed e
-
-from_first : (b : Bool) (o : Option Placed) (placed : Placed) → cond b None o ≡ Some placed → o ≡ Some placed
-from_first true o placed e = absurd (cc)
-from_first false o placed e = e
-
-by_zero : (b : Bool) (size : ℕ) → (size == 0) ≡ b → 0 < cond b 8 ((size + 7) / 8 * 8)
-by_zero true size e = omega arith
-by_zero false size e = let f : 0 < size = grind (arith, nat_tests) in omega (arith, f)
-
-some_rounded : (size : ℕ) → 0 < rounded size
-some_rounded size = by_zero (size == 0) size refl
+-- ---- a block that is given
 
 few_by : (b : Bool) (size : ℕ) → (size == 0) ≡ b → cond b 8 ((size + 7) / 8 * 8) ≤ 2048 → size ≤ 2048
 few_by true size e h = let f : size ≡ 0 = grind (arith, nat_tests) in omega (arith, f)
@@ -101,21 +51,6 @@ from_small false o placed e = refl
 no_span : (pool : List BlockPage) (m : PageList) (memory_type size : ℕ) (r : Result ℕ PageRefusal) → span_at (pages_for size) r ≡ None → (done : Done) → on_pages pool m memory_type size r ≡ Ok done → ⊥
 no_span pool m memory_type size (Ok start) n done e = absurd (cc)
 no_span pool m memory_type size (Err refusal) n done e = absurd (cc)
-
-given_by : (pool : List BlockPage) (m : PageList) (memory_type size : ℕ) → LowestIsLowest → Whole m → IsPool pool → Together pool m
-    → (known : Bool) (gap : Option Placed) → gap_for pool memory_type (rounded size) ≡ gap → cond known (span_beside m memory_type (rounded size) gap) None ≡ None
-    → (done : Done) → cond known (on_page pool m memory_type (rounded size) gap) (Err Invalid) ≡ Ok done → BytesInRam m done.answer (rounded size)
-given_by pool m memory_type size law whole is t false gap g n done e = absurd (cc)
-given_by pool m memory_type size law whole is t true None g n done e = absurd (no_span pool m memory_type (rounded size) (allocation m 0 memory_type (pages_for (rounded size)) 0) n done e)
-given_by pool m memory_type size law whole is t true (Some placed) g n done e =
-    let at : placed.at ≡ done.answer = cc in
-    subst (λ (k : ℕ). BytesInRam m k (rounded size)) at (placed_lies pool m memory_type (rounded size) law (some_rounded size) whole is t placed (from_first (is_large (rounded size)) (put_first pool memory_type (rounded size)) placed g))
-
--- a block that goes into a gap lies in RAM
-pub given_lies : (pool : List BlockPage) (m : PageList) (memory_type size : ℕ) → LowestIsLowest → Whole m → IsPool pool → Together pool m → pages_allocated pool m memory_type size ≡ None
-    → (done : Done) → pool_allocation pool m memory_type size ≡ Ok done → BytesInRam m done.answer (rounded size)
-unfolding pages_allocated pool_allocation
-given_lies pool m memory_type size law whole is t n done e = given_by pool m memory_type size law whole is t (may_be_given memory_type) (gap_for pool memory_type (rounded size)) refl n done e
 
 small_by : (pool : List BlockPage) (m : PageList) (memory_type size : ℕ) → (known : Bool) (gap : Option Placed) → gap_for pool memory_type (rounded size) ≡ gap → cond known (span_beside m memory_type (rounded size) gap) None ≡ None
     → (done : Done) → cond known (on_page pool m memory_type (rounded size) gap) (Err Invalid) ≡ Ok done → size ≤ 2048
@@ -161,8 +96,8 @@ left_size page rest pages size [] = refl
 left_size page rest pages size (block ∷ blocks) = refl
 
 on_block : (m : PageList) (page : BlockPage) (pages : List BlockPage) (at : ℕ) → Whole m → IsPage page → owns m Pool page.start (pages_of page.blocks) ≡ true
-    → (o : Option Block) → find (begins_at page at) page.blocks ≡ o → (others : Option Taken) → ((t : Taken) → others ≡ Some t → BytesInRam m at t.size)
-    → (taken : Taken) → take_on page pages at o others ≡ Some taken → BytesInRam m at taken.size
+    → (o : Option Block) → find (begins_at page at) page.blocks ≡ o → (others : Option Taken) → ((t : Taken) → others ≡ Some t → BlockInRam at t.size m)
+    → (taken : Taken) → take_on page pages at o others ≡ Some taken → BlockInRam at taken.size m
 on_block m page pages at whole is owned (Some block) f others rest taken e =
     let s : left_of page (without page at) pages block.size (without page at).blocks ≡ taken = cc in
     let size : block.size ≡ taken.size = sym (left_size page (without page at) pages block.size (without page at).blocks) ∙ ap (λ (t : Taken). t.size) s in
@@ -177,44 +112,46 @@ on_block m page pages at whole is owned (Some block) f others rest taken e =
 on_block m page pages at whole is owned None f None rest taken e = absurd (cc)
 on_block m page pages at whole is owned None f (Some t) rest taken e =
     let size : t.size ≡ taken.size = cc in
-    subst (λ (k : ℕ). BytesInRam m at k) size (rest t refl)
+    subst (λ (k : ℕ). BlockInRam at k m) size (rest t refl)
 
-taken_lies : (pool : List BlockPage) (m : PageList) (at : ℕ) → Whole m → IsPool pool → Together pool m → (taken : Taken) → take_first pool at ≡ Some taken → BytesInRam m at taken.size
+taken_lies : (pool : List BlockPage) (m : PageList) (at : ℕ) → Whole m → IsPool pool → Together pool m → (taken : Taken) → take_first pool at ≡ Some taken → BlockInRam at taken.size m
 unfolding take_first
 taken_lies [] m at whole is t taken e = absurd (cc)
 taken_lies (page ∷ pages) m at whole is t taken e =
     on_block m page pages at whole is.0 t.0 (find (begins_at page at) page.blocks) refl (take_first pages at) (taken_lies pages m at whole is.2 t.1) taken e
 
-freed_by_taken : (pool : List BlockPage) (m : PageList) (at : ℕ) → Whole m → IsPool pool → Together pool m → (o : Option Taken) → take_first pool at ≡ o → (done : Done) → on_taken m o ≡ Ok done → BytesInRam m at done.answer
+freed_by_taken : (pool : List BlockPage) (m : PageList) (at : ℕ) → Whole m → IsPool pool → Together pool m → (o : Option Taken) → take_first pool at ≡ o → (done : Done) → on_taken m o ≡ Ok done → BlockInRam at done.answer m
 freed_by_taken pool m at whole is t None f done e = absurd (cc)
 freed_by_taken pool m at whole is t (Some taken) f done e =
     let size : taken.size ≡ done.answer = cc in
-    subst (λ (k : ℕ). BytesInRam m at k) size (taken_lies pool m at whole is t taken f)
+    subst (λ (k : ℕ). BlockInRam at k m) size (taken_lies pool m at whole is t taken f)
 
 -- a block that is taken back lies in RAM
-pub freed_lies : (pool : List BlockPage) (m : PageList) (at : ℕ) → Whole m → IsPool pool → Together pool m → (done : Done) → pool_freeing pool m at ≡ Ok done → BytesInRam m at done.answer
+pub freed_lies : (pool : List BlockPage) (m : PageList) (at : ℕ) → Whole m → IsPool pool → Together pool m → (done : Done) → pool_freeing pool m at ≡ Ok done → BlockInRam at done.answer m
 unfolding pool_freeing
 freed_lies pool m at whole is t done e = freed_by_taken pool m at whole is t (take_first pool at) refl done e
 
 -- ---- what a call zeroes
 
-bytes_stay : (m n : PageList) (at size : ℕ) → n.base ≡ m.base → length n.pages ≡ length m.pages → BytesInRam m at size → BytesInRam n at size
+bytes_stay : (m n : PageList) (at size : ℕ) → n.base ≡ m.base → length n.pages ≡ length m.pages → BlockInRam at size m → BlockInRam at size n
 bytes_stay m n at size b l h = let low = h.0 in let high = h.1 in (omega (arith, b, low), omega (arith, b, l, high))
 
 span_stays : (m n : PageList) (span : PageSpan) → n.base ≡ m.base → length n.pages ≡ length m.pages → InRam (Some span) m → InRam (Some span) n
 span_stays m n span b l h = let low = h.0 in let high = h.1 in (omega (arith, b, low), omega (arith, b, l, high))
 
-pub freed_block : (span : Option PageSpan) (pool : List BlockPage) (m n : PageList) (at : ℕ) → Whole m → IsPool pool → Together pool m → InRam span m → n.base ≡ m.base → length n.pages ≡ length m.pages
-    → (done : Done) → pool_freeing pool m at ≡ Ok done → ZeroedInRam span n at done.answer
-freed_block None pool m n at whole is t inside b l done e = bytes_stay m n at done.answer b l (freed_lies pool m at whole is t done e)
-freed_block (Some span) pool m n at whole is t inside b l done e = span_stays m n span b l inside
+pub span_lies : (span : Option PageSpan) (m n : PageList) → n.base ≡ m.base → length n.pages ≡ length m.pages → InRam span m → InRam span n
+span_lies None m n b l h = tt
+span_lies (Some span) m n b l h = span_stays m n span b l h
+
+pub freed_bytes : (span : Option PageSpan) (pool : List BlockPage) (m n : PageList) (at : ℕ) → Whole m → IsPool pool → Together pool m → n.base ≡ m.base → length n.pages ≡ length m.pages
+    → (done : Done) → pool_freeing pool m at ≡ Ok done → IfNone span (BlockInRam at done.answer n)
+freed_bytes None pool m n at whole is t b l done e = bytes_stay m n at done.answer b l (freed_lies pool m at whole is t done e)
+freed_bytes (Some span) pool m n at whole is t b l done e = tt
+
+pub given_bytes : (span : Option PageSpan) (m n : PageList) (at size bytes : ℕ) → n.base ≡ m.base → length n.pages ≡ length m.pages → IfNone span (bytes ≡ rounded size) → BlockInRam at (rounded size) m → IfNone span (BlockInRam at bytes n)
+given_bytes None m n at size bytes b l same h = subst (λ (k : ℕ). BlockInRam at k n) (sym same) (bytes_stay m n at (rounded size) b l h)
+given_bytes (Some span) m n at size bytes b l same h = tt
 
 pub small_block : (span : Option PageSpan) (pool : List BlockPage) (m : PageList) (memory_type size : ℕ) → span ≡ pages_allocated pool m memory_type size → (done : Done) → pool_allocation pool m memory_type size ≡ Ok done → IfNone span (size ≤ 2048)
 small_block None pool m memory_type size h done e = given_small pool m memory_type size (sym h) done e
 small_block (Some span) pool m memory_type size h done e = tt
-
-pub given_block : (span : Option PageSpan) (pool : List BlockPage) (m n : PageList) (memory_type size bytes : ℕ) → LowestIsLowest → Whole m → IsPool pool → Together pool m → span ≡ pages_allocated pool m memory_type size → InRam span m
-    → n.base ≡ m.base → length n.pages ≡ length m.pages → IfNone span (bytes ≡ rounded size) → (done : Done) → pool_allocation pool m memory_type size ≡ Ok done → ZeroedInRam span n done.answer bytes
-given_block None pool m n memory_type size bytes law whole is t h inside b l same done e =
-    subst (λ (k : ℕ). BytesInRam n done.answer k) (sym same) (bytes_stay m n done.answer (rounded size) b l (given_lies pool m memory_type size law whole is t (sym h) done e))
-given_block (Some span) pool m n memory_type size bytes law whole is t h inside b l same done e = span_stays m n span b l inside

@@ -1,15 +1,14 @@
 -- GetMemoryMap (UEFI 2.10, section 7.2.3), where `see` is the place that each address shows and `x` are the registers of
 -- the call.
-use Rattle.std.specs.Prelude.{ℕ, ◌≡◌, ◌&&◌, nat_lt, Bool, true, false, List, [], ◌∷◌, length, Option, if◌then◌else◌}
+use Rattle.std.specs.Prelude.{ℕ, ◌&&◌, nat_lt, Bool, List, [], ◌∷◌, length, Option, if◌then◌else◌}
 use Rattle.uh_base.specs.Statuses.{success, invalid_parameter, buffer_too_small}
 use Rattle.guest_memory.specs.Pages.{Pages}
 use Rattle.page_alloc.specs.Pages.{PageList}
 use Rattle.memory_map.specs.Map.{map_of}
 use Rattle.memory_map.specs.Bytes.{all_bytes, descriptor_size}
 use Rattle.address_view.specs.declared.frames.ByteRange.{ByteRange}
-use Rattle.address_view.specs.Seen.{all_pass, is_seen}
 use Rattle.address_view.specs.Ranges.{lacks_ranges}
-use Rattle.address_view.specs.Stored.{lacks_seen, store_seen, stored}
+use Rattle.address_view.specs.Stored.{store_seen, stored}
 use Rattle.guest_call.specs.declared.answer.Answer.TheVariants.{Gives, LacksFrames}
 use Rattle.guest_call.specs.Arguments.{argument}
 use Rattle.guest_call.specs.Checks.{can_write, can_write_buffer, number_seen}
@@ -19,11 +18,11 @@ use Rattle.memory_services.specs.Ram.{MemoryDone}
 
 -- the addresses that a call brings
 abbrev pub outputs_of : List ℕ → MapOutputs
-outputs_of x = record { size = argument 0 x; buffer = argument 1 x; key = argument 2 x; each = argument 3 x; version = argument 4 x }
+outputs_of x = record { size = argument 0 x; buffer = argument 1 x; key = argument 2 x; descriptor_size = argument 3 x; version = argument 4 x }
 
 -- each output may be written; of the buffer it isn't asked here
 unfoldable pub are_outputs : (ℕ → Option ℕ) → Pages → MapOutputs → Bool
-are_outputs see m o = can_write see m o.size 8 && (can_write_optional see m o.key 8 && (can_write_optional see m o.each 8 && can_write_optional see m o.version 4))
+are_outputs see m o = can_write see m o.size 8 && (can_write_optional see m o.key 8 && (can_write_optional see m o.descriptor_size 8 && can_write_optional see m o.version 4))
 
 -- the version of the descriptors
 abbrev pub descriptor_version : ℕ
@@ -31,7 +30,7 @@ descriptor_version = 1
 
 -- The size and the version of a descriptor are written, each unless its address is 0, and then the size of the map.
 abbrev pub each_written : (ℕ → Option ℕ) → Pages → MapOutputs → Pages
-each_written see m o = store_seen see m o.each (optional o.each 8) descriptor_size
+each_written see m o = store_seen see m o.descriptor_size (optional o.descriptor_size 8) descriptor_size
 
 abbrev pub version_written : (ℕ → Option ℕ) → Pages → MapOutputs → Pages
 version_written see m o = store_seen see (each_written see m o) o.version (optional o.version 4) descriptor_version
@@ -48,7 +47,7 @@ map_written see m o bytes key = store_seen see (list_written see m o bytes) o.ke
 
 -- where all of that lies
 abbrev pub size_ranges : MapOutputs → List ByteRange → List ByteRange
-size_ranges o behind = record { at = o.each; len = optional o.each 8 } ∷ record { at = o.version; len = optional o.version 4 } ∷ record { at = o.size; len = 8 } ∷ behind
+size_ranges o behind = record { at = o.descriptor_size; len = optional o.descriptor_size 8 } ∷ record { at = o.version; len = optional o.version 4 } ∷ record { at = o.size; len = 8 } ∷ behind
 
 abbrev pub map_ranges : MapOutputs → ℕ → List ByteRange
 map_ranges o size = size_ranges o (record { at = o.buffer; len = size } ∷ record { at = o.key; len = optional o.key 8 } ∷ [])
@@ -75,16 +74,3 @@ unfoldable pub get_memory_map : List ℕ → (ℕ → Option ℕ) → Pages → 
 get_memory_map x see m pages =
     if are_outputs see m (outputs_of x) then map_given see m (outputs_of x) (all_bytes (map_of pages)) pages.key (number_seen see m (argument 0 x) 8)
     else record { answer = Gives invalid_parameter; memory = m }
-
--- each byte of each output shows memory
-pub record OutputsSeen (see : ℕ → Option ℕ) (m : Pages) (o : MapOutputs) : Type 0 where
-  pub size : all_pass (is_seen see m) o.size 8 ≡ true
-  pub key : all_pass (is_seen see m) o.key (optional o.key 8) ≡ true
-  pub each : all_pass (is_seen see m) o.each (optional o.each 8) ≡ true
-  pub version : all_pass (is_seen see m) o.version (optional o.version 4) ≡ true
-
--- frames suffice for the sizes, one after another
-pub record SizesFit (see : ℕ → Option ℕ) (m : Pages) (o : MapOutputs) : Type 0 where
-  pub each : lacks_seen see m o.each (optional o.each 8) ≡ false
-  pub version : lacks_seen see (each_written see m o) o.version (optional o.version 4) ≡ false
-  pub size : lacks_seen see (version_written see m o) o.size 8 ≡ false

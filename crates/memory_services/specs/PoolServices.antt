@@ -1,6 +1,6 @@
 -- AllocatePool and FreePool (UEFI 2.10, sections 7.2.4 and 7.2.5), where `see` is the place that each address shows and
 -- `x` are the registers of the call.
-use Rattle.std.specs.Prelude.{ℕ, ◌≤◌, ◌+◌, ◌*◌, List, length, Option, Some, None, Result, Ok, Err, if◌then◌else◌}
+use Rattle.std.specs.Prelude.{ℕ, List, Option, Some, None, Result, Ok, Err, if◌then◌else◌}
 use Rattle.uh_base.specs.Statuses.{success, invalid_parameter, out_of_resources}
 use Rattle.guest_memory.specs.Pages.{Pages, page_of}
 use Rattle.guest_memory.specs.Changes.{cleared, zeroed}
@@ -10,7 +10,7 @@ use Rattle.pool_alloc.specs.declared.refusal.PoolRefusal.{PoolRefusal}
 use Rattle.pool_alloc.specs.declared.refusal.PoolRefusal.TheVariants as refusals
 use Rattle.pool_alloc.specs.Blocks.{rounded}
 use Rattle.pool_alloc.specs.Pool.{BlockPage}
-use Rattle.pool_alloc.specs.Calls.{Done, pool_allocation, pages_allocated, pool_freeing, pages_freed, InRam}
+use Rattle.pool_alloc.specs.Calls.{Done, pool_allocation, pages_allocated, pool_freeing, pages_freed}
 use Rattle.guest_call.specs.declared.answer.Answer.{Answer}
 use Rattle.guest_call.specs.declared.answer.Answer.TheVariants.{Gives, LacksFrames}
 use Rattle.guest_call.specs.Arguments.{argument, low_word}
@@ -74,12 +74,3 @@ block_freed m pages pool at (Err refusal) = record { status = pool_status refusa
 -- FreePool(address): a block that is taken back is zeroed.
 unfoldable pub free_pool : List ℕ → Pages → PageList → List BlockPage → PoolFreed
 free_pool x m pages pool = block_freed m pages pool (argument 0 x) (pool_freeing pool pages (argument 0 x))
-
--- so many bytes from an address on lie in RAM
-abbrev pub BytesInRam : PageList → ℕ → ℕ → Type 0
-BytesInRam m at size = (m.base ≤ at) × (at + size ≤ m.base + 4096 * length m.pages)
-
--- a block, or the pages that go with it, lie in RAM
-abbrev pub ZeroedInRam : Option PageSpan → PageList → ℕ → ℕ → Type 0
-ZeroedInRam (Some span) m at size = InRam (Some span) m
-ZeroedInRam None m at size = BytesInRam m at size

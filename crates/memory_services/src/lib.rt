@@ -11,6 +11,3 @@ pub use copy::{calculate_crc32, copy_mem, set_mem};
 pub use map::get_memory_map;
 pub use page::{allocate_pages, free_pages};
 pub use pool::{allocate_pool, free_pool};
-
-#[cfg(test)]
-mod tests;

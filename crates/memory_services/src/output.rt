@@ -8,8 +8,8 @@ ghost use Rattle.address_view.specs.Windows.{see};
 ghost use Rattle.address_view.specs.Seen.{all_pass, is_seen};
 ghost use Rattle.memory_services.specs.Ram.{number_written};
 
-use address_view::View;
-use guest_call::{Answer, lacks_cleared, put_output};
+use address_view::{View, lacks_cleared};
+use guest_call::{Answer, put_output};
 use guest_memory::GuestMemory;
 use std::alloc::AllocError;
 use uh_base::EfiStatus;

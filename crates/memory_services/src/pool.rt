@@ -6,18 +6,18 @@ ghost use Rattle.guest_memory.specs.Pages.{page_of};
 ghost use Rattle.page_alloc.specs.Pages.{PageList};
 ghost use Rattle.pool_alloc.specs.Pool.{Together};
 ghost use Rattle.pool_alloc.specs.Blocks.{rounded};
-ghost use Rattle.pool_alloc.specs.Calls.{Done, pool_allocation, answer_of, pages_allocated, pool_freeing, pages_freed, InRam};
+ghost use Rattle.pool_alloc.specs.Calls.{Done, pool_allocation, answer_of, pages_allocated, pool_freeing, pages_freed, InRam, BlockInRam};
 ghost use Rattle.address_view.specs.Windows.{see};
 ghost use Rattle.address_view.specs.Seen.{all_pass, is_seen};
 ghost use Rattle.address_view.specs.Stored.{lacks_seen};
 ghost use Rattle.memory_services.specs.Ram.{IsOneRam, SameRam};
-ghost use Rattle.memory_services.specs.PoolServices.{allocate_pool, block_given, block_zeroed, free_pool, pool_status, BytesInRam, ZeroedInRam};
+ghost use Rattle.memory_services.specs.PoolServices.{allocate_pool, block_given, block_zeroed, free_pool, pool_status};
 
-use address_view::View;
-use guest_call::{Answer, argument, can_write, lacks_cleared, low_word, put_output};
+use address_view::{View, lacks_cleared};
+use guest_call::{Answer, argument, can_write, low_word, put_output};
 use guest_memory::GuestMemory;
 use page_alloc::PageMap;
-use pool_alloc::{PageSpan, Pool, PoolRefusal, lowest_is_lowest};
+use pool_alloc::{PageSpan, Pool, PoolRefusal};
 use std::alloc::AllocError;
 use uh_base::EfiStatus;
 
@@ -74,7 +74,8 @@ fn zero_block(
     size: u64,
 )
     requires ram { IsOneRam memory.old map.now }
-    requires block { ZeroedInRam span map.now block size }
+    requires pages { InRam span map.now }
+    requires bytes { IfNone span (BlockInRam block size map.now) }
     ensures gives { memory.new ≡ block_zeroed memory.old span block size }
     ensures base { memory.new.base ≡ memory.old.base }
     ensures pages { memory.new.pages ≡ memory.old.pages }
@@ -182,7 +183,6 @@ fn give_block(
 {
     pages.whole();
     pool.whole();
-    lowest_is_lowest();
     let span = pool.pages_allocated(pages, memory_type, size);
     if lacks_zeroed(memory, view, pages, span, output) {
         return Ok(Answer::LacksFrames);

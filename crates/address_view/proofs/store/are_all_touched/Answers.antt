@@ -1,17 +1,30 @@
 use Rattle.address_view.specs.Windows.{see}
-use Rattle.std.proofs.Common.{◌≡◌, ◌+◌, ◌-◌, suc, arith, sym, ◌∙◌}
-use Rattle.address_view.proofs.StoreLaws.{first_allows}
-use Rattle.address_view.proofs.LoopLemmas.{allows_next, all_next}
+use Rattle.std.proofs.Common.{◌≡◌, arith, sym, refl, ◌∙◌}
+use Rattle.address_view.proofs.RunLaws.{run_all}
+use Rattle.address_view.proofs.LoopLemmas.{low_behind, seen_behind, all_behind, all_over, all_true, all_false}
 use Rattle.address_view.proofs.store.are_all_touched.Goals as goal
 
-pub is_touched_at-requires : goal.is_touched_at-requires
-is_touched_at-requires c =
-    let n : c.args.len - c.loop.counter ≡ suc (c.args.len - (c.loop.counter + 1)) = omega arith in
-    (first_allows (see c.args.view.now) c.args.memory.now c.loop.here _ _ n c.loop.invariant.0).0
+pub loop-left-preserved : goal.loop-left-preserved
+loop-left-preserved c =
+    let run = c.seen_run-run.result in
+    let few = c.seen_run-run.ensures.few in
+    let all = run_all (see c.args.view.now) c.args.memory.now c.loop-left.here run c.seen_run-run.ensures.found c.args.memory.now.touched c.whole.ensures in
+    record {
+      low = low_behind c.loop-left.here run.len _ c.behind-here.ensures;
+      seen = seen_behind (see c.args.view.now) c.args.memory.now c.loop-left.here _ run.len c.loop-left.left c.behind-here.ensures few c.loop-left.invariant.low c.loop-left.invariant.seen;
+      rest = all_true _ _ _ (sym all ∙ sym c.if-not-is_touched.ensures) (all_behind (see c.args.view.now) c.args.memory.now.base c.args.memory.now.touched c.loop-left.here _ run.len c.loop-left.left c.behind-here.ensures few c.loop-left.invariant.low)
+          ∙ c.loop-left.invariant.rest;
+    }
 
-pub loop-preserved : goal.loop-preserved
-loop-preserved c =
-    let n : c.args.len - c.loop.counter ≡ suc (c.args.len - (c.loop.counter + 1)) = omega arith in (
-      allows_next (see c.args.view.now) c.args.memory.now c.loop.here c.next-here.result _ _ n c.next-here.ensures c.loop.invariant.0,
-      all_next (see c.args.view.now) c.args.memory.now.base c.args.memory.now.touched c.loop.here c.next-here.result _ _ n c.next-here.ensures (sym c.if-not-is_touched_at.ensures) ∙ c.loop.invariant.1,
-    )
+pub returns-then-not-is_touched : goal.returns-then-not-is_touched
+returns-then-not-is_touched c =
+    let run = c.seen_run-run.result in
+    let all = run_all (see c.args.view.now) c.args.memory.now c.loop-left.here run c.seen_run-run.ensures.found c.args.memory.now.touched c.whole.ensures in
+    all_false _ _ _ (sym all ∙ sym c.is_touched.ensures ∙ c.if-not-is_touched.true) (all_behind (see c.args.view.now) c.args.memory.now.base c.args.memory.now.touched c.loop-left.here _ run.len c.loop-left.left refl c.seen_run-run.ensures.few c.loop-left.invariant.low)
+    ∙ c.loop-left.invariant.rest
+
+pub returns : goal.returns
+returns c =
+    let over = c.loop-left-test.false in
+    let n : c.loop-left.left ≡ 0 = omega arith in
+    sym (all_over (see c.args.view.now) c.args.memory.now.base c.args.memory.now.touched c.loop-left.here c.loop-left.left n) ∙ c.loop-left.invariant.rest

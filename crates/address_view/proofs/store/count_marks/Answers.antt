@@ -1,26 +1,28 @@
 use Rattle.address_view.specs.Windows.{see}
-use Rattle.std.proofs.Common.{◌≡◌, ◌+◌, ◌-◌, suc, arith, ◌∙◌}
-use Rattle.address_view.proofs.StoreLaws.{first_allows}
+use Rattle.std.proofs.Common.{◌≡◌, arith, sym, ◌∙◌}
 use Rattle.address_view.proofs.MarkedLemmas.{count_length}
-use Rattle.address_view.proofs.LoopLemmas.{allows_next, marks_next}
+use Rattle.address_view.proofs.LoopLemmas.{low_behind, seen_behind, marks_behind, marked_over}
 use Rattle.address_view.proofs.store.count_marks.Goals as goal
-
-pub mark-count-requires-clause-allowed : goal.mark-count-requires-clause-allowed
-mark-count-requires-clause-allowed c =
-    let n : c.args.len - c.loop.counter ≡ suc (c.args.len - (c.loop.counter + 1)) = omega arith in
-    (first_allows (see c.args.view.now) c.args.memory.now c.loop.here _ _ n c.loop.invariant.allowed).0
 
 pub overflow_add-count : goal.overflow_add-count
 overflow_add-count c =
-    let one = c.mark-count.ensures.one in let k = c.loop.invariant.count in let long = c.loop.invariant.long in let few = c.whole.ensures.pages_high in
-    omega (arith, count_length c.loop.marks)
+    let one = c.mark-count.ensures.one in let k = c.loop-left.invariant.count in let long = c.loop-left.invariant.long in let few = c.whole.ensures.pages_high in
+    omega (arith, count_length c.loop-left.marks)
 
-pub loop-preserved : goal.loop-preserved
-loop-preserved c =
-    let n : c.args.len - c.loop.counter ≡ suc (c.args.len - (c.loop.counter + 1)) = omega arith in
+pub loop-left-preserved : goal.loop-left-preserved
+loop-left-preserved c =
+    let run = c.seen_run-run.result in
+    let few = c.seen_run-run.ensures.few in
     record {
-      allowed = allows_next (see c.args.view.now) c.args.memory.now c.loop.here c.next-here.result _ _ n c.next-here.ensures c.loop.invariant.allowed;
-      rest = marks_next (see c.args.view.now) c.args.memory.now.base c.loop.marks _ c.loop.here c.next-here.result _ _ n c.next-here.ensures c.mark-count.ensures.marks ∙ c.loop.invariant.rest;
+      low = low_behind c.loop-left.here run.len _ c.behind-here.ensures;
+      seen = seen_behind (see c.args.view.now) c.args.memory.now c.loop-left.here _ run.len c.loop-left.left c.behind-here.ensures few c.loop-left.invariant.low c.loop-left.invariant.seen;
+      rest = marks_behind (see c.args.view.now) c.args.memory.now.base c.loop-left.marks _ c.loop-left.here _ run.len c.loop-left.left c.behind-here.ensures few c.loop-left.invariant.low c.mark-count.ensures.marks ∙ c.loop-left.invariant.rest;
       long = c.mark-count.ensures.long;
-      count = let m = c.mark-count.ensures.count in let k = c.loop.invariant.count in omega arith;
+      count = let m = c.mark-count.ensures.count in let k = c.loop-left.invariant.count in omega arith;
     }
+
+pub returns-clause-marks : goal.returns-clause-marks
+returns-clause-marks c =
+    let over = c.loop-left-test.false in
+    let n : c.loop-left.left ≡ 0 = omega arith in
+    sym (marked_over (see c.args.view.now) c.args.memory.now.base c.loop-left.marks c.loop-left.here c.loop-left.left n) ∙ c.loop-left.invariant.rest

@@ -1,7 +1,10 @@
+use Rattle.std.proofs.Common.{length}
 use Rattle.address_view.specs.Windows.{see}
-use Rattle.std.proofs.Common.{drop}
 use Rattle.address_view.proofs.LoopLemmas.{Putting}
 use Rattle.address_view.proofs.store.put_all.Given as goal
 
-abbrev pub invariant-loop-byte : goal.invariant-loop-byte
-invariant-loop-byte l = Putting (see l.view) l.initial.memory l.memory l.at l.bytes l.here (drop l.byte-index l.bytes)
+abbrev pub invariant-loop-rest : goal.invariant-loop-rest
+invariant-loop-rest l = Putting (see l.view) l.initial.memory l.memory l.at l.bytes l.here l.rest
+
+abbrev pub decreases-loop-rest : goal.decreases-loop-rest
+decreases-loop-rest l = length l.rest
