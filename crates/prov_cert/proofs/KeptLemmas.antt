@@ -337,7 +337,7 @@ record ReadsPart (regions : ℕ) (before : List StackPart) (part : StackPart) : 
   whole_part : IsPart regions part
   apart : meets_none before part.at part.width ≡ true
 
-part_kept : (regions : ℕ) (text : List ℕ) (part : StackPart) → stack_part regions text ≡ Some part → IsPart regions part
+pub part_kept : (regions : ℕ) (text : List ℕ) (part : StackPart) → stack_part regions text ≡ Some part → IsPart regions part
 unfolding stack_part
 part_kept regions text part h =
     let made : ℕ → ℕ → Kind → Option StackPart = λ at width kind. Some (record { at = at; width = width; kind = kind }) in

@@ -2,6 +2,7 @@ pub mod WordLemmas
 pub mod Views
 pub mod Loops
 pub mod PartLemmas
+pub mod ApartLemmas
 pub mod KeptLemmas
 pub mod TextLemmas
 pub mod BackLemmas

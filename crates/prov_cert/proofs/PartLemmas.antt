@@ -5,7 +5,8 @@ use Rattle.std.proofs.lemmas.List.{drop_all, drop_more}
 use Rattle.uh_base.specs.Numbers.{number_of}
 use Rattle.prov_cert.specs.declared.cert.RegKind.{RegKind}
 use Rattle.prov_cert.specs.declared.cert.StackPart.{StackPart}
-use Rattle.prov_cert.specs.Forms.{next_register, registers_of, next_part, stack_of, index_below, indices_of}
+use Rattle.prov_cert.specs.Forms.{next_register, registers_of, stack_part, index_below, indices_of}
+use Rattle.prov_cert.specs.Apart.{parts_of}
 use Rattle.prov_cert.specs.Seen.{texts_of}
 
 pub texts-drop : (parts : List (Bor (List ℕ))) (i : ℕ) (p : Bor (List ℕ)) → i < length parts → texts_of (drop i parts) ≡ (get_or parts i p).now ∷ texts_of (drop (i + 1) parts)
@@ -26,16 +27,16 @@ module _ (regions : ℕ) (before : List RegKind) (parts : List (Bor (List ℕ)))
   unfolding registers_of
   register_fails h = sym register_turn ∙ rw (← h) refl
 
-module _ (regions : ℕ) (before : List StackPart) (parts : List (Bor (List ℕ))) (i : ℕ) (p : Bor (List ℕ)) (whole : Option (List StackPart)) (below : i < length parts) (so_far : stack_of regions before (texts_of (drop i parts)) ≡ whole) where
-  part_turn : stack_of regions before ((get_or parts i p).now ∷ texts_of (drop (i + 1) parts)) ≡ whole
-  part_turn = sym (ap (stack_of regions before) (texts-drop parts i p below)) ∙ so_far
+module _ (regions : ℕ) (before : List StackPart) (parts : List (Bor (List ℕ))) (i : ℕ) (p : Bor (List ℕ)) (whole : Option (List StackPart)) (below : i < length parts) (so_far : parts_of regions before (texts_of (drop i parts)) ≡ whole) where
+  part_turn : parts_of regions before ((get_or parts i p).now ∷ texts_of (drop (i + 1) parts)) ≡ whole
+  part_turn = sym (ap (parts_of regions before) (texts-drop parts i p below)) ∙ so_far
 
-  pub part_goes : (k : StackPart) → Some k ≡ next_part regions before (get_or parts i p).now → stack_of regions (before ++ k ∷ []) (texts_of (drop (i + 1) parts)) ≡ whole
-  unfolding stack_of
+  pub part_goes : (k : StackPart) → Some k ≡ stack_part regions (get_or parts i p).now → parts_of regions (before ++ k ∷ []) (texts_of (drop (i + 1) parts)) ≡ whole
+  unfolding parts_of
   part_goes k h = rw (← h) at part_turn
 
-  pub part_fails : None ≡ next_part regions before (get_or parts i p).now → whole ≡ None
-  unfolding stack_of
+  pub part_fails : None ≡ stack_part regions (get_or parts i p).now → whole ≡ None
+  unfolding parts_of
   part_fails h = sym part_turn ∙ rw (← h) refl
 
 module _ (bound : ℕ) (before : List ℕ) (parts : List (Bor (List ℕ))) (i : ℕ) (p : Bor (List ℕ)) (whole : Option (List ℕ)) (below : i < length parts) (so_far : indices_of bound before (texts_of (drop i parts)) ≡ whole) where
@@ -58,9 +59,9 @@ pub registers_end : (regions : ℕ) (before : List RegKind) (parts : List (Bor (
 unfolding registers_of
 registers_end regions before parts i h = rw (texts-end parts i h) refl
 
-pub stack_end : (regions : ℕ) (before : List StackPart) (parts : List (Bor (List ℕ))) (i : ℕ) → length parts ≤ i → stack_of regions before (texts_of (drop i parts)) ≡ Some before
-unfolding stack_of
-stack_end regions before parts i h = rw (texts-end parts i h) refl
+pub parts_end : (regions : ℕ) (before : List StackPart) (parts : List (Bor (List ℕ))) (i : ℕ) → length parts ≤ i → parts_of regions before (texts_of (drop i parts)) ≡ Some before
+unfolding parts_of
+parts_end regions before parts i h = rw (texts-end parts i h) refl
 
 pub indices_end : (bound : ℕ) (before : List ℕ) (parts : List (Bor (List ℕ))) (i : ℕ) → length parts ≤ i → indices_of bound before (texts_of (drop i parts)) ≡ Some before
 unfolding indices_of

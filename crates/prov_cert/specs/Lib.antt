@@ -7,3 +7,4 @@ pub mod Seen
 pub mod Kept
 pub mod Texts
 pub mod Back
+pub mod Apart

@@ -1,6 +1,7 @@
 //! The certificate of a driver: what a TOML document says, or the first thing that is wrong with it.
 #![tactic(auto)]
 
+mod apart;
 mod cert;
 mod fault;
 mod forms;
@@ -8,8 +9,6 @@ mod laws;
 mod lists;
 mod parts;
 mod reading;
-#[cfg(test)]
-mod tests;
 mod words;
 mod writing;
 

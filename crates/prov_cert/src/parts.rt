@@ -2,9 +2,11 @@
 ghost use Rattle.std.specs.Prelude.{◌≡◌, ◌==◌, [], map, option_map, IfOk};
 ghost use Rattle.std.specs.List.{slice_split};
 ghost use Rattle.prov_cert.specs.Words.{listed, seen_pair};
-ghost use Rattle.prov_cert.specs.Forms.{Counts, has_register, next_register, registers_of, is_apart, meets_none, stack_part, next_part, stack_of, index_below, indices_of, indices, name_of, entry_of, fields_of, node_of};
+ghost use Rattle.prov_cert.specs.Forms.{Counts, has_register, next_register, registers_of, stack_part, stack_of, index_below, indices_of, indices, name_of, entry_of, fields_of, node_of};
+ghost use Rattle.prov_cert.specs.Apart.{parts_of};
 ghost use Rattle.prov_cert.specs.Seen.{texts_of, counts_seen, fields_seen};
 
+use crate::apart::are_apart;
 use crate::cert::{CertEntry, Node, RegKind, StackPart};
 use crate::forms::{is_width, kind_of, reg_kind};
 use crate::words::{cut, listed, next_number, next_word, one_number};
@@ -64,25 +66,6 @@ fn registers_of(
     Ok(Some(kinds))
 }
 
-/// Whether two stretches of the stack have no byte in common.
-fn is_apart(at: u64, width: u8, part: &StackPart) -> bool
-    ensures { result ≡ is_apart at width part.now }
-{
-    u128::from(at) + u128::from(width) <= u128::from(part.at)
-        || u128::from(part.at) + u128::from(part.width) <= u128::from(at)
-}
-
-fn meets_none(before: &[StackPart], at: u64, width: u8) -> bool
-    ensures { result ≡ meets_none before.now at width }
-{
-    for part in before {
-        if !is_apart(at, width, part) {
-            return false;
-        }
-    }
-    true
-}
-
 /// A part of the stack.
 #[tactic(auto, unfolding(crate::specs::Forms::stack_part))]
 fn stack_part(regions: u8, text: &str) -> Option<StackPart>
@@ -109,20 +92,22 @@ fn stack_part(regions: u8, text: &str) -> Option<StackPart>
     }
 }
 
-/// A part of the stack that meets none before it.
-fn next_part(regions: u8, before: &[StackPart], text: &str) -> Option<StackPart>
-    ensures { result ≡ next_part regions before.now text.now }
+/// Parts of the stack, also where they meet.
+fn parts_of(
+    alloc: Global,
+    regions: u8,
+    texts: &[&str],
+) -> Result<Option<Vec<StackPart>>, AllocError>
+    ensures { IfOk result (λ o. option_map (λ v. v.items) o ≡ parts_of regions [] (texts_of texts.now)) }
 {
-    match stack_part(regions, text) {
-        None => None,
-        Some(part) => {
-            if meets_none(before, part.at, part.width) {
-                Some(part)
-            } else {
-                None
-            }
+    let mut parts = Vec::new(alloc);
+    for text in texts {
+        match stack_part(regions, text) {
+            None => return Ok(None),
+            Some(part) => parts.push(part)?,
         }
     }
+    Ok(Some(parts))
 }
 
 /// Parts of the stack, of which no two meet.
@@ -133,14 +118,15 @@ fn stack_of(
 ) -> Result<Option<Vec<StackPart>>, AllocError>
     ensures { IfOk result (λ o. option_map (λ v. v.items) o ≡ stack_of regions [] (texts_of parts.now)) }
 {
-    let mut stack = Vec::new(alloc);
-    for part in parts {
-        match next_part(regions, stack.as_slice(), part) {
-            None => return Ok(None),
-            Some(part) => stack.push(part)?,
-        }
+    let stack = match parts_of(alloc, regions, parts)? {
+        None => return Ok(None),
+        Some(stack) => stack,
+    };
+    if are_apart(alloc, stack.as_slice())? {
+        Ok(Some(stack))
+    } else {
+        Ok(None)
     }
-    Ok(Some(stack))
 }
 
 /// A number below a bound.

@@ -1,12 +1,15 @@
-use Rattle.std.proofs.Common.{sym, ◌∙◌, arith}
-use Rattle.prov_cert.proofs.PartLemmas.{part_goes, part_fails, stack_end}
+use Rattle.prov_cert.proofs.ApartLemmas.{stack_none, stack_some, all_wide}
+use Rattle.prov_cert.specs.Seen.{texts_of}
 use Rattle.prov_cert.proofs.parts.stack_of.Goals as goal
 
 pub returns-in-None : goal.returns-in-None
-returns-in-None c = sym (part_fails c.args.regions c.loop-part.stack.items c.args.parts.now c.loop-part.part-index _ _ c.loop-part-test.true c.loop-part.invariant (rw c.as_slice.ensures.value at c.in-None.ensures))
+returns-in-None c = stack_none c.args.regions (texts_of c.args.parts.now) (rw c.in-None.is at c.in_ok-parts_of.ensures)
 
-pub loop-part-preserved : goal.loop-part-preserved
-loop-part-preserved c = rw c.in_ok-push-in-Some.ensures.items (part_goes c.args.regions c.loop-part.stack.items c.args.parts.now c.loop-part.part-index _ _ c.loop-part-test.true c.loop-part.invariant c.in-Some.part (rw c.as_slice.ensures.value at c.in-Some.ensures))
+pub are_apart-requires : goal.are_apart-requires
+are_apart-requires c = rw c.as_slice.ensures.value (all_wide c.args.regions (texts_of c.args.parts.now) c.in-Some.stack.items (rw c.in-Some.is at c.in_ok-parts_of.ensures))
 
-pub returns : goal.returns
-returns c = sym (stack_end c.args.regions c.loop-part.stack.items c.args.parts.now c.loop-part.part-index (omega arith)) ∙ c.loop-part.invariant
+pub returns-then-branch : goal.returns-then-branch
+returns-then-branch c = rw c.if-branch.true at (stack_some c.args.regions (texts_of c.args.parts.now) c.in-Some.stack.items c.in_ok-are_apart.field-0 (rw c.in-Some.is at c.in_ok-parts_of.ensures) (rw c.as_slice.ensures.value at c.in_ok-are_apart.ensures))
+
+pub returns-else-branch : goal.returns-else-branch
+returns-else-branch c = rw c.if-branch.false at (stack_some c.args.regions (texts_of c.args.parts.now) c.in-Some.stack.items c.in_ok-are_apart.field-0 (rw c.in-Some.is at c.in_ok-parts_of.ensures) (rw c.as_slice.ensures.value at c.in_ok-are_apart.ensures))
