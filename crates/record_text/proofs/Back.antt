@@ -3,22 +3,26 @@ use Rattle.std.proofs.Common.{◌≡◌, ℕ, zero, suc, ◌+◌, ◌/◌, ◌%�
 use Rattle.std.proofs.lemmas.Bool.{and_parts}
 use Rattle.std.proofs.lemmas.Bool.Decides.{nat_tests}
 use Rattle.std.proofs.lemmas.List.{take_at, drop_at, length-append}
+use Rattle.std.proofs.lemmas.Fmt.{digits_decimal}
+use Rattle.std.proofs.lemmas.Str.Parse.{IsNumeralModel, IsDigitsTest, numerals_by_value}
 use Rattle.std.specs.Fmt.{decimal}
+use Rattle.std.specs.Str.Parse.{digits_value}
+use Rattle.std.specs.Int.{IsInRange}
 use Rattle.std.specs.List.{position_or_len, list_all}
 use Rattle.uh_base.specs.Hex.{hex_digit, hex_digits}
 use Rattle.uh_base.specs.Names.{is_name, is_name_byte}
-use Rattle.uh_base.specs.Numbers.{number_of, hexadecimal_number}
+use Rattle.uh_base.specs.Numbers.{digit_value, digits_number, number_of, hexadecimal_number}
 use Rattle.record_text.specs.Causes.{cause_name, cause_of}
 use Rattle.record_text.specs.Texts.{text_of, IsLine}
-use Rattle.record_text.specs.Guesses.{is_space, cut, small_number, load_of, start_of, halt_of, with_word, guess_of}
+use Rattle.record_text.specs.Guesses.{is_space, cut, small_number, load_of, start_of, memmap_of, row_of, halt_of, with_word, behind_word, guess_of}
 use Rattle.record_text.specs.declared.cause.Cause.{Cause}
 use Rattle.record_text.specs.declared.cause.Cause.TheVariants as causes
 use Rattle.record_text.specs.declared.line.Line.{Line}
-use Rattle.record_text.specs.declared.line.Line.TheVariants.{Console, Load, Start, Halt, End}
+use Rattle.record_text.specs.declared.line.Line.TheVariants.{Console, Load, Start, MemmapKey, MemmapRow, Halt, End}
 
 -- ---- words
 
-abbrev NoSpace : List ℕ → Type 0
+abbrev pub NoSpace : List ℕ → Type 0
 NoSpace [] = Unit {0}
 NoSpace (c ∷ cs) = (is_space c ≡ false) × NoSpace cs
 
@@ -34,7 +38,7 @@ no_end : (w : List ℕ) → NoSpace w → position_or_len is_space w ≡ length 
 no_end [] h = refl
 no_end (c ∷ cs) h = let f = h.0 in rw f (grind (arith, no_end cs h.1))
 
-cut_word : (w r : List ℕ) → NoSpace w → cut (w ++ 32 ∷ r) ≡ Some (w, r)
+pub cut_word : (w r : List ℕ) → NoSpace w → cut (w ++ 32 ∷ r) ≡ Some (w, r)
 unfolding cut
 cut_word w r h =
     let at : position_or_len is_space (w ++ 32 ∷ r) ≡ length w = word_end w r h in
@@ -44,7 +48,7 @@ cut_word w r h =
     let long : length (w ++ 32 ∷ r) ≡ length w + suc (length r) = length-append w (32 ∷ r) in
     rw (at, front, back, long) (grind (arith, nat_tests))
 
-cut_none : (w : List ℕ) → NoSpace w → cut w ≡ None
+pub cut_none : (w : List ℕ) → NoSpace w → cut w ≡ None
 unfolding cut
 cut_none w h = rw (no_end w h) (grind (arith, nat_tests))
 
@@ -53,10 +57,27 @@ cut_none w h = rw (no_end w h) (grind (arith, nat_tests))
 digit_no_space : (d : ℕ) → d < 16 → is_space (hex_digit d) ≡ false
 digit_no_space d h = grind (arith, nat_tests)
 
-hex_no_space : (k n : ℕ) → NoSpace (hex_digits k n)
+pub hex_no_space : (k n : ℕ) → NoSpace (hex_digits k n)
 unfolding hex_digits
 hex_no_space zero n = tt
 hex_no_space (suc k) n = NoSpace-append (hex_digits k (n / 16)) (hex_digit (n % 16) ∷ []) (hex_no_space k (n / 16)) (digit_no_space (n % 16) (omega arith), tt)
+
+abbrev pub AreDigits : List ℕ → Type 0
+AreDigits [] = Unit {0}
+AreDigits (c ∷ cs) = IsInRange 48 57 c × AreDigits cs
+
+tested : IsDigitsTest AreDigits
+tested = record { empty = tt; parts = λ c cs h. h; more = λ c cs r h. (r, h) }
+
+pub own : IsNumeralModel AreDigits (digits_value 10)
+own = numerals_by_value AreDigits tested
+
+digits_no_space : (ds : List ℕ) → AreDigits ds → NoSpace ds
+digits_no_space [] h = tt
+digits_no_space (c ∷ cs) h = let r = h.0 in (grind (arith, nat_tests, r), digits_no_space cs h.1)
+
+pub decimal_no_space : (n : ℕ) → n < 2 ^ 64 → NoSpace (decimal n)
+decimal_no_space n h = digits_no_space (decimal n) (digits_decimal own n h)
 
 byte_no_space : (c : ℕ) → is_name_byte c ≡ true → is_space c ≡ false
 byte_no_space c h = grind (arith, nat_tests, h)
@@ -104,21 +125,43 @@ pub record ReadBack : Type 0 where
   pub decimals : (n : ℕ) → n < 2 ^ 64 → number_of (decimal n) ≡ Some n
   pub hexadecimals : (count n : ℕ) → 1 ≤ count → count ≤ 16 → n < 16 ^ count → hexadecimal_number (hex_digits count n) ≡ Some n
 
-hex_back : ReadBack → (n : ℕ) → n < 2 ^ 64 → hexadecimal_number (hex_digits 16 n) ≡ Some n
+pub hex_back : ReadBack → (n : ℕ) → n < 2 ^ 64 → hexadecimal_number (hex_digits 16 n) ≡ Some n
 hex_back laws n h = laws.hexadecimals 16 n (omega arith) (omega arith) h
 
-small_back : ReadBack → (n : ℕ) → n < 2 ^ 32 → small_number (decimal n) ≡ Some n
+pub small_back : ReadBack → (n : ℕ) → n < 2 ^ 32 → small_number (decimal n) ≡ Some n
 unfolding small_number
 small_back laws n h = rw (laws.decimals n (omega arith)) (grind (arith, nat_tests))
+
+-- words of lines are no numbers
+console_no_number : small_number (codes "console") ≡ None
+unfolding small_number number_of digits_number digit_value
+console_no_number = refl
+
+load_no_number : small_number (codes "load") ≡ None
+unfolding small_number number_of digits_number digit_value
+load_no_number = refl
+
+start_no_number : small_number (codes "start") ≡ None
+unfolding small_number number_of digits_number digit_value
+start_no_number = refl
+
+memmap_no_number : small_number (codes "memmap") ≡ None
+unfolding small_number number_of digits_number digit_value
+memmap_no_number = refl
+
+halt_no_number : small_number (codes "halt") ≡ None
+unfolding small_number number_of digits_number digit_value
+halt_no_number = refl
 
 -- ---- lines
 
 pub guess_text : ReadBack → (line : Line) → IsLine line → guess_of (text_of line) ≡ Some line
-unfolding guess_of with_word text_of load_of start_of halt_of
-guess_text laws (Console text) f = rw (cut_word (codes "console") text (search rules)) refl
+unfolding guess_of behind_word with_word text_of load_of start_of memmap_of row_of halt_of
+guess_text laws (Console text) f = rw (cut_word (codes "console") text (search rules), console_no_number) refl
 guess_text laws (Load name h0 h1 pages) f =
     rw (
       cut_word (codes "load") _ (search rules),
+      load_no_number,
       cut_word name _ (name_no_space name f.0),
       cut_word (hex_digits 16 h0) _ (hex_no_space 16 h0),
       cut_word (hex_digits 16 h1) _ (hex_no_space 16 h1),
@@ -129,14 +172,28 @@ guess_text laws (Load name h0 h1 pages) f =
 guess_text laws (Start name h0 steps) f =
     rw (
       cut_word (codes "start") _ (search rules),
+      start_no_number,
       cut_word name _ (name_no_space name f.0),
       cut_word (hex_digits 16 h0) _ (hex_no_space 16 h0),
       hex_back laws h0 f.1.0,
       laws.decimals steps f.1.1,
     ) refl
+guess_text laws (MemmapKey key) f =
+    rw (cut_word (codes "memmap") _ (search rules), memmap_no_number, laws.decimals key f.1) refl
+guess_text laws (MemmapRow memory_type h0 pages h1) f =
+    rw (
+      cut_word (decimal memory_type) _ (decimal_no_space memory_type (omega (arith, f.1.0))),
+      small_back laws memory_type f.1.0,
+      cut_word (hex_digits 16 h0) _ (hex_no_space 16 h0),
+      cut_word (decimal pages) _ (decimal_no_space pages f.1.2),
+      hex_back laws h0 f.1.1,
+      laws.decimals pages f.1.2,
+      hex_back laws h1 f.1.3,
+    ) refl
 guess_text laws (Halt cause h0 h1) f =
     rw (
       cut_word (codes "halt") _ (search rules),
+      halt_no_number,
       cut_word (cause_name cause) _ (cause_no_space cause),
       cut_word (hex_digits 16 h0) _ (hex_no_space 16 h0),
       cause_back cause,

@@ -7,7 +7,7 @@ use Rattle.std.specs.Borrow.{Bor}
 use Rattle.uh_base.specs.Numbers.{number_of, hexadecimal_number}
 use Rattle.record_text.specs.Causes.{cause_of}
 use Rattle.record_text.specs.declared.line.Line.{Line}
-use Rattle.record_text.specs.declared.line.Line.TheVariants.{Console, Load, Start, Halt, End}
+use Rattle.record_text.specs.declared.line.Line.TheVariants.{Console, Load, Start, MemmapKey, MemmapRow, Halt, End}
 
 infixl 10 ◌>>=◌
 abbrev pub ◌>>=◌ : {A B : Type 0} → Option A → (A → Option B) → Option B
@@ -45,6 +45,19 @@ start_of text = do
   steps ← number_of first.1
   Some (Start name.0 h0 steps)
 
+unfoldable pub memmap_of : List ℕ → Option Line
+memmap_of text = number_of text >>= λ key. Some (MemmapKey key)
+
+-- a row of a memory map, behind its memory type
+unfoldable pub row_of : ℕ → List ℕ → Option Line
+row_of memory_type text = do
+  first ← cut text
+  second ← cut first.1
+  h0 ← hexadecimal_number first.0
+  pages ← number_of second.0
+  h1 ← hexadecimal_number second.1
+  Some (MemmapRow memory_type h0 pages h1)
+
 unfoldable pub halt_of : List ℕ → Option Line
 halt_of text = do
   word ← cut text
@@ -59,14 +72,23 @@ with_word word rest =
     if bytes_eq word (codes "console") then Some (Console rest)
     else (if bytes_eq word (codes "load") then load_of rest
     else (if bytes_eq word (codes "start") then start_of rest
-    else (if bytes_eq word (codes "halt") then halt_of rest else None)))
+    else (if bytes_eq word (codes "memmap") then memmap_of rest
+    else (if bytes_eq word (codes "halt") then halt_of rest else None))))
+
+-- a row where the first word is a number
+abbrev pub by_type : List ℕ → List ℕ → Option ℕ → Option Line
+by_type word rest None = with_word word rest
+by_type word rest (Some memory_type) = row_of memory_type rest
+
+unfoldable pub behind_word : List ℕ → List ℕ → Option Line
+behind_word word rest = by_type word rest (small_number word)
 
 abbrev pub without_word : List ℕ → Option Line
 without_word text = if bytes_eq text (codes "end") then Some End else None
 
 abbrev pub by_cut : List ℕ → Option (List ℕ × List ℕ) → Option Line
 by_cut text None = without_word text
-by_cut text (Some parts) = with_word parts.0 parts.1
+by_cut text (Some parts) = behind_word parts.0 parts.1
 
 unfoldable pub guess_of : List ℕ → Option Line
 guess_of text = by_cut text (cut text)

@@ -1,4 +1,6 @@
 pub mod Causes
 pub mod Console
 pub mod Guesses
+pub mod ImageGuesses
+pub mod ImageTexts
 pub mod Texts

@@ -6,7 +6,7 @@ use Rattle.uh_base.specs.Names.{is_name}
 use Rattle.uh_base.specs.ConsoleText.{IsConsoleText}
 use Rattle.record_text.specs.Causes.{cause_name}
 use Rattle.record_text.specs.declared.line.Line.{Line}
-use Rattle.record_text.specs.declared.line.Line.TheVariants.{Console, Load, Start, Halt, End}
+use Rattle.record_text.specs.declared.line.Line.TheVariants.{Console, Load, Start, MemmapKey, MemmapRow, Halt, End}
 
 -- a word, a space and what follows
 abbrev pub spaced : List ℕ → List ℕ → List ℕ
@@ -16,6 +16,8 @@ unfoldable pub text_of : Line → List ℕ
 text_of (Console text) = spaced (codes "console") text
 text_of (Load name h0 h1 pages) = spaced (codes "load") (spaced name (spaced (hex_digits 16 h0) (spaced (hex_digits 16 h1) (decimal pages))))
 text_of (Start name h0 steps) = spaced (codes "start") (spaced name (spaced (hex_digits 16 h0) (decimal steps)))
+text_of (MemmapKey key) = spaced (codes "memmap") (decimal key)
+text_of (MemmapRow memory_type h0 pages h1) = spaced (decimal memory_type) (spaced (hex_digits 16 h0) (spaced (decimal pages) (hex_digits 16 h1)))
 text_of (Halt cause h0 h1) = spaced (codes "halt") (spaced (cause_name cause) (spaced (hex_digits 16 h0) (hex_digits 16 h1)))
 text_of End = codes "end"
 
@@ -24,6 +26,8 @@ abbrev pub HasForms : Line → Type 0
 HasForms (Console text) = IsConsoleText text
 HasForms (Load name h0 h1 pages) = is_name name ≡ true
 HasForms (Start name h0 steps) = is_name name ≡ true
+HasForms (MemmapKey key) = Unit {0}
+HasForms (MemmapRow memory_type h0 pages h1) = Unit {0}
 HasForms (Halt cause h0 h1) = Unit {0}
 HasForms End = Unit {0}
 
@@ -32,6 +36,8 @@ abbrev pub Fits : Line → Type 0
 Fits (Console text) = Unit {0}
 Fits (Load name h0 h1 pages) = (h0 < 2 ^ 64) × (h1 < 2 ^ 64) × (pages < 2 ^ 32)
 Fits (Start name h0 steps) = (h0 < 2 ^ 64) × (steps < 2 ^ 64)
+Fits (MemmapKey key) = key < 2 ^ 64
+Fits (MemmapRow memory_type h0 pages h1) = (memory_type < 2 ^ 32) × (h0 < 2 ^ 64) × (pages < 2 ^ 64) × (h1 < 2 ^ 64)
 Fits (Halt cause h0 h1) = (h0 < 2 ^ 64) × (h1 < 2 ^ 64)
 Fits End = Unit {0}
 

@@ -3,13 +3,17 @@
 
 mod cause;
 mod console;
+mod image_line;
+mod image_reading;
+mod image_writing;
 mod line;
 mod reading;
-#[cfg(test)]
-mod tests;
 mod writing;
 
 pub use cause::Cause;
+pub use image_line::{ImageFault, ImageLine, RelocKind};
+pub use image_reading::read_image_line;
+pub use image_writing::{push_decimal, push_image_line, push_place};
 pub use line::Line;
 pub use reading::read_line;
 pub use writing::line_text;

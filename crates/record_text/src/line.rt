@@ -22,6 +22,17 @@ pub enum Line {
         h0: u64,
         steps: u64,
     },
+    /// `memmap KEY`: a memory map of this key follows, a row for each descriptor.
+    MemmapKey {
+        key: u64,
+    },
+    /// `TYPE START PAGES ATTRIBUTE`: a descriptor of a memory map (UEFI 2.10, section 7.2), with its physical start.
+    MemmapRow {
+        memory_type: u32,
+        h0: u64,
+        pages: u64,
+        h1: u64,
+    },
     /// `halt CAUSE PC ADDRESS`: the run stopped, the last line.
     Halt {
         cause: Cause,

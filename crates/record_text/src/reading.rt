@@ -1,7 +1,7 @@
 //! Reading a line back: the line that a text may be is guessed, its text is written, and the two are compared.
 ghost use Rattle.std.specs.Prelude.{◌≡◌, IfOk, IfSome, IfNone, IsTrue};
 ghost use Rattle.record_text.specs.Texts.{text_of, IsLine, HasForms};
-ghost use Rattle.record_text.specs.Guesses.{cut, seen_cut, small_number, load_of, start_of, halt_of, with_word, guess_of};
+ghost use Rattle.record_text.specs.Guesses.{cut, seen_cut, small_number, load_of, start_of, memmap_of, row_of, halt_of, with_word, behind_word, guess_of};
 ghost use Rattle.record_text.specs.declared.line.Line.{Line as AnyLine};
 
 use crate::cause::cause_of;
@@ -12,7 +12,7 @@ use std::alloc::{AllocError, Global};
 use uh_base::{Text, decimals_read_back, hexadecimal, hexadecimals_read_back, is_name, number};
 
 /// The first word, and what stands behind the space after it.
-fn cut(text: &str) -> Option<(&str, &str)>
+pub(crate) fn cut(text: &str) -> Option<(&str, &str)>
     ensures { seen_cut result ≡ cut text.now }
 {
     text.split_once(' ')
@@ -20,7 +20,7 @@ fn cut(text: &str) -> Option<(&str, &str)>
 
 /// A number below 2^32.
 #[tactic(auto, unfolding(crate::specs::Guesses::small_number))]
-fn small_number(text: &str) -> Option<u32>
+pub(crate) fn small_number(text: &str) -> Option<u32>
     ensures { result ≡ small_number text.now }
 {
     match number(text) {
@@ -80,6 +80,32 @@ fn start_of(alloc: Global, text: &str) -> Result<Option<Line>, AllocError>
     Ok(Some(Line::Start { name, h0, steps }))
 }
 
+#[tactic(auto, unfolding(crate::specs::Guesses::memmap_of))]
+fn memmap_of(text: &str) -> Option<Line>
+    ensures { result ≡ memmap_of text.now }
+{
+    let key = number(text)?;
+    Some(Line::MemmapKey { key })
+}
+
+/// The row of a memory map behind its memory type.
+#[tactic(auto, unfolding(crate::specs::Guesses::row_of))]
+fn row_of(memory_type: u32, text: &str) -> Option<Line>
+    ensures { result ≡ row_of memory_type text.now }
+{
+    let (first, rest) = cut(text)?;
+    let (count, second) = cut(rest)?;
+    let h0 = hexadecimal(first.as_bytes())?;
+    let pages = number(count)?;
+    let h1 = hexadecimal(second.as_bytes())?;
+    Some(Line::MemmapRow {
+        memory_type,
+        h0,
+        pages,
+        h1,
+    })
+}
+
 #[tactic(auto, unfolding(crate::specs::Guesses::halt_of))]
 fn halt_of(text: &str) -> Option<Line>
     ensures { result ≡ halt_of text.now }
@@ -106,10 +132,24 @@ fn with_word(alloc: Global, word: &str, rest: &str) -> Result<Option<Line>, Allo
     if word == "start" {
         return start_of(alloc, rest);
     }
+    if word == "memmap" {
+        return Ok(memmap_of(rest));
+    }
     if word == "halt" {
         return Ok(halt_of(rest));
     }
     Ok(None)
+}
+
+/// A row where the first word is a number.
+#[tactic(auto, unfolding(crate::specs::Guesses::behind_word))]
+fn behind_word(alloc: Global, word: &str, rest: &str) -> Result<Option<Line>, AllocError>
+    ensures { IfOk result (λ line. line ≡ behind_word word.now rest.now) }
+{
+    match small_number(word) {
+        Some(memory_type) => Ok(row_of(memory_type, rest)),
+        None => with_word(alloc, word, rest),
+    }
 }
 
 /// The line that a text may be.
@@ -118,7 +158,7 @@ fn guess_of(alloc: Global, text: &str) -> Result<Option<Line>, AllocError>
     ensures { IfOk result (λ line. line ≡ guess_of text.now) }
 {
     match cut(text) {
-        Some((word, rest)) => with_word(alloc, word, rest),
+        Some((word, rest)) => behind_word(alloc, word, rest),
         None => if text == "end" {
             Ok(Some(Line::End))
         } else {
@@ -136,6 +176,8 @@ fn has_forms(line: &Line) -> bool
         Line::Console { text } => is_console_text(text.as_str()),
         Line::Load { name, .. } => is_name(name.as_str()),
         Line::Start { name, .. } => is_name(name.as_str()),
+        Line::MemmapKey { .. } => true,
+        Line::MemmapRow { .. } => true,
         Line::Halt { .. } => true,
         Line::End => true,
     }

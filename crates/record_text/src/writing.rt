@@ -41,6 +41,23 @@ pub fn line_text(alloc: Global, line: &Line) -> Result<String, AllocError>
             let h0 = word(alloc, *h0)?;
             format!(in alloc; "start {} {} {}", name.as_str(), h0.as_str(), *steps)
         }
+        Line::MemmapKey { key } => format!(in alloc; "memmap {}", *key),
+        Line::MemmapRow {
+            memory_type,
+            h0,
+            pages,
+            h1,
+        } => {
+            let h0 = word(alloc, *h0)?;
+            let h1 = word(alloc, *h1)?;
+            format!(in alloc;
+                "{} {} {} {}",
+                *memory_type,
+                h0.as_str(),
+                *pages,
+                h1.as_str()
+            )
+        }
         Line::Halt { cause, h0, h1 } => {
             let h0 = word(alloc, *h0)?;
             let h1 = word(alloc, *h1)?;

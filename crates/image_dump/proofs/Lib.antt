@@ -1,0 +1,9 @@
+pub mod CodeLemmas
+pub mod FormLemmas
+pub mod GivesLemmas
+pub mod LawLemmas
+pub mod LineLemmas
+pub mod ListingLemmas
+pub mod PlacedLemmas
+pub mod PutLemmas
+pub mod TextLemmas

@@ -1,0 +1,28 @@
+use Rattle.std.proofs.Common.{◌≡◌, ◌+◌, ap, ◌∙◌, sym, ◌++◌, length, arith, length-drop}
+use Rattle.std.proofs.lemmas.Bool.Decides.{nat_tests}
+use Rattle.image_dump.specs.Code.{listing}
+use Rattle.image_dump.proofs.LineLemmas.{nothing_before}
+use Rattle.image_dump.proofs.CodeLemmas.{no_code}
+use Rattle.image_dump.proofs.PutLemmas.{goes_on, stops, ends}
+use Rattle.image_dump.proofs.code.put_code.Goals as goal
+
+pub loop-left-preserved : goal.loop-left-preserved
+loop-left-preserved g c =
+    let next = c.loop-left.place + c.in-Ok.count in
+    let split : listing c.loop-left.place c.loop-left.left.now ≡ c.push_lines.new.text.items ++ listing next c.behind-left.result.now =
+    nothing_before c.loop-left.text.items _ c.push_lines.new.text.items _ c.loop-left.invariant.empty (c.in-Ok.ensures.text ∙ ap (λ l. c.push_lines.new.text.items ++ listing next l) (sym c.behind-left.ensures)) in
+    record {
+      empty = c.in-Ok-put_text.ensures.empty;
+      inside = omega (arith, c.loop-left.invariant.inside, c.in-Ok.ensures.within, ap length c.behind-left.ensures ∙ length-drop c.in-Ok.count c.loop-left.left.now);
+      toward = goes_on _ _ _ _ _ _ c.loop-left.invariant.toward c.in-Ok-put_text.field-0 c.push_lines.new.text.items (listing next c.behind-left.result.now) _ _ split c.in-Ok-put_text.ensures.puts;
+    }
+
+pub returns-in-Err-put_text-clause-puts : goal.returns-in-Err-put_text-clause-puts
+returns-in-Err-put_text-clause-puts g c =
+    let next = c.loop-left.place + c.in-Ok.count in
+    let split : listing c.loop-left.place c.loop-left.left.now ≡ c.push_lines.new.text.items ++ listing next c.behind-left.result.now =
+    nothing_before c.loop-left.text.items _ c.push_lines.new.text.items _ c.loop-left.invariant.empty (c.in-Ok.ensures.text ∙ ap (λ l. c.push_lines.new.text.items ++ listing next l) (sym c.behind-left.ensures)) in
+    stops _ _ _ _ _ _ c.loop-left.invariant.toward c.in-Err-put_text.stop c.push_lines.new.text.items (listing next c.behind-left.result.now) _ _ split c.in-Err-put_text.ensures.puts
+
+pub returns-clause-puts : goal.returns-clause-puts
+returns-clause-puts g c = ends _ _ _ _ _ _ c.loop-left.invariant.toward _ (no_code c.loop-left.place c.loop-left.left.now (grind (arith, nat_tests, c.loop-left-test.ensures)))

@@ -1,0 +1,5 @@
+pub mod Code
+pub mod Listings
+pub mod Operands
+pub mod Puts
+pub mod Reports
