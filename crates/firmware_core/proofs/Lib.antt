@@ -1,2 +1,4 @@
-pub mod LoadLemmas
-pub mod OpeningLemmas
+pub mod LayoutLemmas
+pub mod TurnLemmas
+pub mod JobLemmas
+pub mod PartLemmas

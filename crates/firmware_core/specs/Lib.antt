@@ -1,5 +1,6 @@
-pub mod Machines
-pub mod Turns
-pub mod Loads
-pub mod Views
+pub mod Parts
 pub mod Opening
+pub mod Services
+pub mod Turns
+pub mod Jobs
+pub mod Loads

@@ -1,93 +1,121 @@
 -- One turn of the machine.
-use Rattle.std.specs.Prelude.{ℕ, ◌+◌, ◌-◌, ◌*◌, ◌/◌, ◌%◌, ◌==◌, ◌&&◌, not, nat_le, Bool, Option, Some, None, slice_index, slice_set, if◌then◌else◌}
-use Rattle.uh_base.specs.Statuses.{success, unsupported}
-use Rattle.rv_step.specs.Exec.{Outcome, Went, Stored, Stopped, step_of}
-use Rattle.rv_step.specs.Exec as exec
-use Rattle.guest_memory.specs.Pages.{bytes_of, rights_at}
-use Rattle.address_view.specs.Windows.{see, seen_bytes}
-use Rattle.address_view.specs.Seen.{view_allows}
-use Rattle.address_view.specs.Stored.{store_seen, lacks_seen}
+use Rattle.std.specs.Prelude.{ℕ, ◌+◌, ◌-◌, ◌*◌, ◌/◌, ◌%◌, ◌^◌, ◌==◌, ◌&&◌, not, nat_le, min, Bool, Option, Some, None, slice_index, slice_set, if◌then◌else◌}
+use Rattle.rv_step.specs.declared.bus.Access.TheVariants as access
+use Rattle.rv_step.specs.declared.ends.Trap.{Trap}
+use Rattle.rv_step.specs.declared.ends.Trap.TheVariants as traps
+use Rattle.rv_step.specs.declared.ends.StepEnd.{StepEnd}
+use Rattle.rv_step.specs.declared.ends.StepEnd.TheVariants as ends
+use Rattle.record_text.specs.declared.cause.Cause.{Cause}
+use Rattle.record_text.specs.declared.cause.Cause.TheVariants as causes
+use Rattle.record_text.specs.declared.line.Line.TheVariants as lines
+use Rattle.virtual_map.specs.Instructions.{Carried, carried}
 use Rattle.firmware_core.specs.declared.happened.Happened.{Happened}
-use Rattle.firmware_core.specs.declared.happened.Happened.TheVariants as happened
-use Rattle.firmware_core.specs.Machines.{State}
-use Rattle.console_services.specs.Console.{Reply, Answers, Prints, output_string, test_string, set_mode}
+use Rattle.firmware_core.specs.declared.happened.Happened.TheVariants.{Turned, Said, Left, Halted}
+use Rattle.firmware_core.specs.declared.conclusion.Conclusion.{Conclusion}
+use Rattle.firmware_core.specs.declared.conclusion.Conclusion.TheVariants.{Answers, Prints, Leaves, Halts}
+use Rattle.firmware_core.specs.Parts.{Parts}
+use Rattle.firmware_core.specs.Services.{Concluded, service_of, serve}
+
+-- the parts, and the job under way: its counted steps, and their bound
+pub record State : Type 0 where
+  pub firmware : Parts
+  pub steps : ℕ
+  pub bound : ℕ
 
 -- what happens in a turn, and the state behind it
 pub record Turn : Type 0 where
   pub happened : Happened
   pub state : State
 
--- ---- an instruction
+-- the run is over
+abbrev pub halted : Cause → ℕ → ℕ → Happened
+halted cause pc at = Halted (record { cause = cause; pc = pc; at = at })
 
--- what the instruction at the program counter works on
-abbrev pub hart_of : State → exec.State
-hart_of s = record { x = s.x; pc = s.pc; bytes = seen_bytes (see s.view) (bytes_of s.memory) }
+-- A step is counted, and a unit of time passes. A turn that halts counts none.
+abbrev pub passed : Parts → Parts
+passed f = record f { time = min (f.time + 1) (2 ^ 64 - 1) }
 
--- the state with what an instruction made of the registers
-abbrev pub moved_to : State → exec.State → State
-moved_to s to = record s { x = to.x; pc = to.pc }
+abbrev pub counted : State → Parts → State
+counted s f = record { firmware = passed f; steps = s.steps + 1; bound = s.bound }
 
--- A store that would touch more than 65,536 pages isn't made.
-abbrev pub instruction_comes_to : State → Outcome → Turn
-instruction_comes_to s (Went to) = record { happened = happened.Went; state = moved_to s to }
-instruction_comes_to s (Stored at width value to) =
-    if lacks_seen (see s.view) s.memory at width then record { happened = happened.Frames; state = s }
-    else record { happened = happened.Went; state = record (moved_to s to) { memory = store_seen (see s.view) s.memory at width value } }
-instruction_comes_to s (Stopped trap) = record { happened = happened.Trapped trap; state = s }
-
-unfoldable pub instruction_turn : State → Turn
-instruction_turn s = instruction_comes_to s (step_of (view_allows (see s.view) (rights_at s.memory)) (hart_of s))
-
--- ---- a service
-
--- A service answers in a0, which is register 10, and continues at ra, which is register 1.
-abbrev pub answered : State → ℕ → State
-answered s a0 = record s { x = slice_set s.x 10 a0; pc = slice_index s.x 1 }
-
-abbrev pub service_comes_to : State → Reply → Turn
-service_comes_to s (Answers a0) = record { happened = happened.Went; state = answered s a0 }
-service_comes_to s (Prints text a0) = record { happened = happened.Printed text; state = answered s a0 }
-
--- the slot by which the firmware is returned to
-abbrev pub return_slot : ℕ
-return_slot = 67
-
--- argument n of a call, from 0 on, is register 10 + n
-abbrev pub argument : State → ℕ → ℕ
-argument s n = slice_index s.x (10 + n)
-
--- The console's services: Reset, OutputString, TestString, SetMode, SetAttribute, ClearScreen, SetCursorPosition and
--- EnableCursor (UEFI 2.10, 12.4). Those that change what a screen shows are answered with success, and a run shows no screen.
-unfoldable pub console_reply : ℕ → State → Reply
-console_reply slot s =
-    if slot == 59 then output_string s.view s.memory (argument s 1)
-    else (if slot == 60 then Answers (test_string s.view s.memory (argument s 1))
-    else (if slot == 61 then Answers unsupported
-    else (if slot == 62 then Answers (set_mode (argument s 1))
-    else Answers success)))
-
--- The service of a slot. A service that isn't built answers that it is unsupported.
-unfoldable pub slot_turn : ℕ → State → Turn
-slot_turn slot s =
-    if slot == 67 then record { happened = happened.Returned (argument s 0); state = s }
-    else (if nat_le 58 slot && nat_le slot 66 then service_comes_to s (console_reply slot s)
-    else service_comes_to s (Answers unsupported))
-
--- ---- the turn
+-- ---- which turn comes
 
 -- Slot k begins 16 k bytes into the slot page. Slots 0 to 67 are services, but for 17, which is reserved.
 abbrev pub is_slot : ℕ → Bool
 is_slot offset = offset % 16 == 0 && (nat_le offset (16 * 67) && not (offset == 16 * 17))
 
 -- the slot that the program counter is at
-abbrev pub slot_at : State → Option ℕ
-slot_at s = if nat_le s.layout.slots s.pc && is_slot (s.pc - s.layout.slots) then Some ((s.pc - s.layout.slots) / 16) else None
+abbrev pub slot_at : Parts → Option ℕ
+slot_at f = if nat_le f.runtime.layout.slots f.hart.pc && is_slot (f.hart.pc - f.runtime.layout.slots) then Some ((f.hart.pc - f.runtime.layout.slots) / 16) else None
 
-abbrev pub by_slot : Option ℕ → State → Turn
-by_slot None s = instruction_turn s
-by_slot (Some slot) s = slot_turn slot s
+-- The job's bound is reached; or the service of a slot comes; or an instruction.
+pub data Next : Type 0 where
+  Bound : Next
+  Slot : (slot : ℕ) → Next
+  Instruction : Next
 
--- A service where the program counter is at its slot, and an instruction elsewhere. The slot page can't be fetched
--- from, so any other place in it is a fetch fault.
+abbrev pub by_slot : Option ℕ → Next
+by_slot None = Instruction
+by_slot (Some slot) = Slot slot
+
+unfoldable pub next_turn : State → Next
+next_turn s = if s.steps == s.bound then Bound else by_slot (slot_at s.firmware)
+
+-- ---- a service
+
+-- A service answers in a0, which is register 10, and continues at ra, which is register 1.
+abbrev pub answered : Parts → ℕ → Parts
+answered f a0 = record f { hart = record { x = slice_set f.hart.x 10 a0; pc = slice_index f.hart.x 1 } }
+
+-- what is made of a service called at a program counter; a text that it prints is a line
+abbrev pub comes_to : ℕ → State → Conclusion → Parts → Turn
+comes_to pc s (Answers a0) f = record { happened = Turned; state = counted s (answered f a0) }
+comes_to pc s (Prints text a0) f = record { happened = Said (lines.Console text); state = counted s (answered f a0) }
+comes_to pc s (Leaves value) f = record { happened = Left value (s.steps + 1); state = counted s f }
+comes_to pc s (Halts cause) f = record { happened = halted cause pc 0; state = record s { firmware = f } }
+
+unfoldable pub service_turn : ℕ → State → Turn
+service_turn slot s = comes_to s.firmware.hart.pc s (serve (service_of slot) s.firmware).conclusion (serve (service_of slot) s.firmware).firmware
+
+-- ---- an instruction
+
+-- A trap halts the run. An access that is refused names the first address without the right.
+abbrev pub trapped : Trap → ℕ → Happened
+trapped traps.Illegal pc = halted causes.Illegal pc 0
+trapped traps.Ebreak pc = halted causes.Ebreak pc 0
+trapped traps.Ecall pc = halted causes.Ecall pc 0
+trapped (traps.Fault at access.Load) pc = halted causes.Load pc at
+trapped (traps.Fault at access.Store) pc = halted causes.Store pc at
+trapped (traps.Fault at access.Fetch) pc = halted causes.Fetch pc at
+
+abbrev pub with_carried : Parts → Carried → Parts
+with_carried f c = record f { hart = record { x = c.x; pc = c.pc }; runtime = c.runtime }
+
+-- how an instruction ends, and the parts behind it
+pub record Instructed : Type 0 where
+  pub end : StepEnd
+  pub firmware : Parts
+
+unfoldable pub instructed : Parts → Instructed
+instructed f = let c = carried f.hart.x f.hart.pc f.runtime in record { end = c.end; firmware = with_carried f c }
+
+-- what is made of an instruction at a program counter
+abbrev pub carried_out : ℕ → State → StepEnd → Parts → Turn
+carried_out pc s ends.Next f = record { happened = Turned; state = counted s f }
+carried_out pc s (ends.Trap trap) f = record { happened = trapped trap pc; state = record s { firmware = f } }
+carried_out pc s ends.Frames f = record { happened = halted causes.Frames pc 0; state = record s { firmware = f } }
+carried_out pc s ends.Memory f = record { happened = halted causes.Frames pc 0; state = record s { firmware = f } }
+
+unfoldable pub instruction_turn : State → Turn
+instruction_turn s = carried_out s.firmware.hart.pc s (instructed s.firmware).end (instructed s.firmware).firmware
+
+-- ---- the turn
+
+abbrev pub by_next : Next → State → Turn
+by_next Bound s = record { happened = halted causes.Bound s.firmware.hart.pc 0; state = s }
+by_next (Slot slot) s = service_turn slot s
+by_next Instruction s = instruction_turn s
+
+-- A place in the slot page that is no slot can't be fetched from, so it is a fetch fault.
 unfoldable pub turn_of : State → Turn
-turn_of s = by_slot (slot_at s) s
+turn_of s = by_next (next_turn s) s

@@ -1,18 +1,25 @@
 //! What happens in a turn.
-use rv_step::Trap;
-use uh_base::Text;
+use record_text::{Cause, Line};
+
+/// Why and where a run is halted.
+#[derive(Clone, Copy, Debug, PartialEq, Eq, Drop)]
+pub struct Halt {
+    pub cause: Cause,
+    /// The program counter of the turn.
+    pub pc: u64,
+    /// The first address without the right, for `Fetch`, `Load` and `Store`; else 0.
+    pub at: u64,
+}
 
 /// What happens in a turn.
-#[derive(Debug, Drop)]
+#[derive(Drop)]
 pub enum Happened {
     /// An instruction was carried out, or a service answered.
-    Went,
-    /// A service answered and printed this text to the console.
-    Printed(Text),
-    /// The running image returned with this status.
-    Returned(u64),
-    /// The instruction traps; nothing changed.
-    Trapped(Trap),
-    /// A store would touch more than 65,536 pages; nothing changed.
-    Frames,
+    Turned,
+    /// A service answered and said this line.
+    Said(Line),
+    /// The job is over: the status in a0, and the steps of the job.
+    Left { value: u64, steps: u64 },
+    /// The run is over.
+    Halted(Halt),
 }

@@ -3,12 +3,19 @@
 //! A turn is one instruction, or one service of the firmware where the program counter stands at its slot.
 #![tactic(auto)]
 
+mod conclusion;
+mod firmware;
 mod happened;
-mod instruction;
-mod load;
+mod job;
+mod loading;
 mod machine;
 mod opening;
-mod placing;
+mod service;
+mod serving;
+mod turn;
 
-pub use happened::Happened;
-pub use machine::{LoadedImage, Machine};
+pub use happened::{Halt, Happened};
+pub use job::{Job, begin, run_machine};
+pub use loading::load;
+pub use machine::{Machine, Setup};
+pub use turn::step_machine;

@@ -1,19 +1,38 @@
-//! RAM at opening.
-ghost use Rattle.std.specs.Prelude.{◌≡◌, OnOk};
+//! The machine at opening.
+ghost use Rattle.std.specs.Prelude.{◌≡◌, OnOk, IfOk};
+ghost use Rattle.page_alloc.specs.Layout.{IsRam, IsLayout};
 ghost use Rattle.system_tables.specs.Memory.{IsRamOf};
-ghost use Rattle.firmware_core.specs.Loads.{first_page};
-ghost use Rattle.firmware_core.specs.Opening.{with_firmware};
+ghost use Rattle.virtual_map.specs.States.{Belongs};
+ghost use Rattle.firmware_core.specs.Parts.{Spread};
+ghost use Rattle.firmware_core.specs.Opening.{runtime_at, with_firmware};
 
-use crate::placing::{READABLE, layout_spreads};
-use guest_memory::GuestMemory;
-use page_alloc::Layout;
-use std::alloc::AllocError;
+use address_view::View;
+use guest_memory::{GuestMemory, Rights};
+use page_alloc::{Layout, PageMap, opening_covers_ram};
+use std::alloc::{AllocError, Global};
 use system_tables::build_tables;
+use virtual_map::RuntimeState;
+
+/// The right to read alone.
+const READABLE: Rights = Rights {
+    read: true,
+    write: false,
+    exec: false,
+};
+
+/// A law: where the places of a layout lie.
+#[tactic(auto, using(crate::proofs::LayoutLemmas::spreads))]
+pub(crate) fn layout_spreads(layout: &Layout)
+    requires { IsLayout layout.now }
+    ensures { Spread layout.now }
+{
+    let _ = layout;
+}
 
 /// Builds the tables, touches the pages of the operating system's arguments and the slot page, and leaves the slot
 /// page readable alone. In RAM of which nothing is touched there are frames for these 19 pages, so only memory can
 /// be wanting.
-pub fn put_firmware(layout: &Layout, memory: &mut GuestMemory) -> Result<(), AllocError>
+fn put_firmware(layout: &Layout, memory: &mut GuestMemory) -> Result<(), AllocError>
     requires { IsRamOf layout.now memory.old }
     ensures gives { OnOk result (memory.new ≡ with_firmware layout.now memory.old) }
     ensures base { memory.new.base ≡ memory.old.base }
@@ -36,4 +55,25 @@ pub fn put_firmware(layout: &Layout, memory: &mut GuestMemory) -> Result<(), All
     }
     memory.set_rights(slots, 1, READABLE);
     Ok(())
+}
+
+/// RAM, its use and its view at opening.
+#[tactic(auto, using(crate::proofs::LayoutLemmas::ram_of))]
+pub(crate) fn runtime_at(alloc: Global, base: u64, pages: u32) -> Result<RuntimeState, AllocError>
+    requires { IsRam base pages }
+    ensures gives { IfOk result (λ runtime. runtime ≡ runtime_at base pages) }
+    ensures belongs { IfOk result (λ runtime. Belongs runtime) }
+{
+    let layout = Layout::at(base, pages);
+    let mut memory = GuestMemory::new(alloc, base, pages)?;
+    put_firmware(&layout, &mut memory)?;
+    opening_covers_ram();
+    let map = PageMap::new(alloc, &layout)?;
+    let view = View::identity(alloc, base, u64::from(pages) * 4096)?;
+    Ok(RuntimeState {
+        layout,
+        memory,
+        pages: map,
+        view,
+    })
 }

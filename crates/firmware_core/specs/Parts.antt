@@ -1,0 +1,37 @@
+-- The parts of a machine.
+use Rattle.std.specs.Prelude.{ℕ, ◌≡◌, ◌+◌, ◌*◌, ◌^◌, ◌≤◌, List, Option}
+use Rattle.page_alloc.specs.declared.layout.Layout.{Layout}
+use Rattle.pool_alloc.specs.Pool.{BlockPage, Together}
+use Rattle.image_services.specs.declared.images.Loaded.{Loaded}
+use Rattle.virtual_map.specs.States.{Runtime, Belongs}
+
+-- the registers x0 to x31, and the program counter
+pub record Hart : Type 0 where
+  pub x : List ℕ
+  pub pc : ℕ
+
+pub record Parts : Type 0 where
+  pub hart : Hart
+  -- the handle of the image that runs
+  pub running : Option ℕ
+  -- the moment, in units of 100 ns since opening
+  pub time : ℕ
+  -- RAM, how it is used and seen
+  pub runtime : Runtime
+  pub pool : List BlockPage
+  -- the loaded images, in order of loading, and how many handles were made
+  pub images : List Loaded
+  pub handles : ℕ
+
+-- the parts belong together
+pub record Whole (f : Parts) : Type 0 where
+  pub runtime : Belongs f.runtime
+  pub pool : Together f.pool f.runtime.pages
+
+-- where the places of a layout lie
+pub record Spread (layout : Layout) : Type 0 where
+  pub args : layout.os_args + 0x34000 ≡ layout.base + 4096 * layout.pages
+  pub slots : layout.slots + 0x1000 ≡ layout.base + 4096 * layout.pages
+  pub end : layout.base + 4096 * layout.pages ≤ 2 ^ 47
+  pub some : 256 ≤ layout.pages
+  pub few : layout.pages ≤ 1048576

@@ -1,0 +1,77 @@
+//! The load of an image into a machine.
+ghost use Rattle.std.specs.Prelude.{◌≡◌, ◌≤◌, IfOk, length};
+ghost use Rattle.image_services.specs.Loads.{load_of};
+ghost use Rattle.image_services.specs.Views.{LoadGives};
+ghost use Rattle.firmware_core.specs.Services.{store_of, with_store};
+ghost use Rattle.firmware_core.specs.Loads.{loaded};
+
+use crate::firmware::Firmware;
+use crate::machine::Machine;
+use address_view::CodePage;
+use image_services::{LoadRefusal, load_image};
+use std::alloc::{AllocError, Global};
+use uh_base::EfiStatus;
+
+impl Firmware {
+    /// Loads the image of a file of at most 4 MiB without a parent, and gives its handle.
+    fn load(&mut self, alloc: Global, file: &[u8]) -> Result<u64, LoadRefusal>
+        requires { length file.now ≤ 0x400000 }
+        ensures gives { LoadGives result (load_of self.old.runtime.layout (store_of self.old) self.old.handles file.now 0) (store_of self.old) (store_of self.new) self.old.handles self.new.handles }
+        ensures rest { self.new ≡ record (with_store self.old (store_of self.new)) { handles = self.new.handles } }
+    {
+        self.whole();
+        self.code = CodePage::none();
+        let images = &mut self.images;
+        let pool = &mut self.pool;
+        let made = &mut self.handles;
+        let runtime = &mut self.runtime;
+        load_image(
+            alloc,
+            images,
+            &runtime.layout,
+            &mut runtime.memory,
+            &mut runtime.pages,
+            pool,
+            made,
+            file,
+            0,
+        )
+    }
+}
+
+/// What a load answers where it is refused with a status.
+fn refused(status: EfiStatus) -> (EfiStatus, u64, u64, u32)
+    ensures status { result.0 ≡ status }
+    ensures handle { result.1 ≡ 0 }
+    ensures base { result.2 ≡ 0 }
+    ensures pages { result.3 ≡ 0 }
+{
+    (status, 0, 0, 0)
+}
+
+/// Loads the image of a file of at most 4 MiB: the status, the handle, the base and the pages of 4,096 bytes, the last three 0
+/// where the load is refused. Then nothing changes. After want of memory the machine may only be dropped.
+#[tactic(auto, unfolding(crate::specs::Loads::loaded))]
+pub fn load(
+    alloc: Global,
+    machine: &mut Machine,
+    file: &[u8],
+) -> Result<(EfiStatus, u64, u64, u32), AllocError>
+    requires { length file.now ≤ 0x400000 }
+    ensures { IfOk result (λ r. record { status = r.0.0; handle = r.1; base = r.2; pages = r.3; state = machine.new } ≡ loaded machine.old file.now) }
+{
+    match machine.firmware.load(alloc, file) {
+        Ok(handle) => match machine.firmware.images.find(handle) {
+            Some(image) => Ok((EfiStatus::SUCCESS, handle, image.base, image.pages)),
+            None => Ok((EfiStatus::SUCCESS, 0, 0, 0)),
+        },
+        Err(LoadRefusal::Memory) => Err(AllocError),
+        Err(LoadRefusal::TooMany) => Ok(refused(LoadRefusal::TooMany.status())),
+        Err(LoadRefusal::Pe(fault)) => Ok(refused(LoadRefusal::Pe(fault).status())),
+        Err(LoadRefusal::Reloc(fault)) => Ok(refused(LoadRefusal::Reloc(fault).status())),
+        Err(LoadRefusal::Placed) => Ok(refused(LoadRefusal::Placed.status())),
+        Err(LoadRefusal::NoPages) => Ok(refused(LoadRefusal::NoPages.status())),
+        Err(LoadRefusal::Full) => Ok(refused(LoadRefusal::Full.status())),
+        Err(LoadRefusal::Frames) => Ok(refused(LoadRefusal::Frames.status())),
+    }
+}

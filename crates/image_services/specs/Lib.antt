@@ -1,0 +1,9 @@
+pub mod Images
+pub mod Stores
+pub mod Blocks
+pub mod Placing
+pub mod Loads
+pub mod Unloads
+pub mod Status
+pub mod Views
+pub mod Laws

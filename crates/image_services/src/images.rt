@@ -1,0 +1,127 @@
+//! The images that are loaded.
+ghost use Rattle.std.specs.Prelude.{◌≡◌, ◌<◌, ◌++◌, ◌∷◌, [], nat_lt, IfOk, length};
+ghost use Rattle.image_services.specs.Images.{find_image, without_image, with_started, has_handle, started_at, most_images};
+
+use std::alloc::{AllocError, Global};
+use std::marker::Model;
+
+/// The most images that are loaded at a time.
+const MOST: usize = 16;
+
+/// An image in memory.
+#[derive(Clone, Copy, Debug, PartialEq, Eq, Drop)]
+pub struct Loaded {
+    /// Its handle, a multiple of 16.
+    pub handle: u64,
+    /// The physical address of its first byte.
+    pub base: u64,
+    /// How many pages of 4,096 bytes it has.
+    pub pages: u32,
+    /// 10 for an application, 11 for a boot driver, 12 for a runtime driver.
+    pub subsystem: u16,
+    /// The physical address of its entry point.
+    pub entry: u64,
+    /// The physical address of its block, an EFI_LOADED_IMAGE_PROTOCOL of 96 bytes (UEFI 2.10, 9.1).
+    pub block: u64,
+    /// Whether it was started.
+    pub started: bool,
+}
+
+impl Loaded {
+    /// Whether it has the handle.
+    fn has(&self, handle: u64) -> bool
+        ensures { result ≡ has_handle handle self.now }
+    {
+        self.handle == handle
+    }
+
+    /// The image, started if it has the handle.
+    fn started_at(self, handle: u64) -> Loaded
+        ensures { result ≡ started_at handle self }
+    {
+        if self.has(handle) {
+            Loaded {
+                started: true,
+                ..self
+            }
+        } else {
+            self
+        }
+    }
+}
+
+/// The images that are loaded, at most 16, in order of loading.
+#[derive(Drop)]
+pub struct Images {
+    images: Vec<Loaded>,
+}
+
+impl Model for Images {
+    ghost use Rattle.std.specs.Prelude.{◌≤◌, List, length};
+    ghost use Rattle.image_services.specs.declared.images.Loaded.{Loaded};
+
+    ghost Value = { List Loaded };
+
+    ghost view = { λ i. i.images.items };
+
+    ghost invariant = { λ i. length i.images.items ≤ 16 };
+}
+
+impl Images {
+    /// No image. It takes no memory.
+    pub fn new(alloc: Global) -> Images
+        ensures { result ≡ [] }
+    {
+        Images {
+            images: Vec::new(alloc),
+        }
+    }
+
+    /// The image of a handle.
+    pub fn find(&self, handle: u64) -> Option<Loaded>
+        ensures { result ≡ find_image self.now handle }
+    {
+        self.images.iter().copied().find(|image| image.has(handle))
+    }
+
+    /// Notes that the image of a handle was started.
+    pub fn mark(&mut self, handle: u64)
+        ensures { self.new ≡ with_started self.old handle }
+    {
+        mark_started(&mut self.images, handle);
+    }
+
+    /// Takes the image of a handle off the list.
+    pub(crate) fn remove(&mut self, handle: u64)
+        ensures { self.new ≡ without_image self.old handle }
+    {
+        self.images.retain(|image| !image.has(handle));
+    }
+
+    /// These images and one more behind them.
+    pub(crate) fn with(&self, alloc: Global, image: Loaded) -> Result<Images, AllocError>
+        requires { length self.now < 16 }
+        ensures { IfOk result (λ images. images ≡ self.now ++ image ∷ []) }
+    {
+        let mut images = Vec::from_slice(alloc, self.images.as_slice())?;
+        images.push(image)?;
+        Ok(Images { images })
+    }
+
+    /// Whether there is room for one image more.
+    pub(crate) fn has_room(&self) -> bool
+        ensures { result ≡ nat_lt (length self.now) most_images }
+    {
+        self.images.len() < MOST
+    }
+}
+
+/// Notes that the image of a handle was started.
+fn mark_started(images: &mut [Loaded], handle: u64)
+    ensures value { images.new ≡ with_started images.old handle }
+    ensures long { length images.new ≡ length images.old }
+{
+    for image in images.iter_mut() {
+        *image = image.started_at(handle);
+    }
+}

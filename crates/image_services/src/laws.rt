@@ -1,0 +1,7 @@
+//! What the definitions come to. Each law is the contract of a function that does nothing.
+ghost use Rattle.image_services.specs.Laws.{FieldsStandAtTheirOffsets};
+
+/// The fields of a block stand at the offsets of EFI_LOADED_IMAGE_PROTOCOL (UEFI 2.10, 9.1).
+pub fn fields_stand_at_their_offsets()
+    ensures { FieldsStandAtTheirOffsets }
+{}

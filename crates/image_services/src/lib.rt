@@ -1,0 +1,20 @@
+//! The images that are loaded, and how they come into memory and go again (UEFI 2.10, 7.4 and 9.1).
+#![tactic(auto)]
+
+mod block;
+mod claiming;
+mod images;
+mod laws;
+mod load;
+mod marks;
+mod reading;
+mod refusal;
+mod rights;
+mod unload;
+mod writing;
+
+pub use images::{Images, Loaded};
+pub use laws::fields_stand_at_their_offsets;
+pub use load::load_image;
+pub use refusal::{LoadRefusal, UnloadRefusal};
+pub use unload::{discard_image, unload_image};

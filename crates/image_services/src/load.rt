@@ -1,0 +1,233 @@
+//! Loading images (UEFI 2.10, 7.4).
+ghost use Rattle.std.specs.Prelude.{◌≡◌, ◌≤◌, ◌<◌, ◌+◌, ◌-◌, ◌*◌, ◌%◌, ◌^◌, false, IfOk, OnOk, OnErr, length};
+ghost use Rattle.guest_memory.specs.Changes.{TouchedBesides};
+ghost use Rattle.pool_alloc.specs.Pool.{Together};
+ghost use Rattle.pe_image.specs.ImageOf.{fields_of};
+ghost use Rattle.pe_image.specs.Placed.{in_pages};
+ghost use Rattle.pe_image.specs.Sound.{IsImage};
+ghost use Rattle.base_reloc.specs.Sites.{AreSites};
+ghost use Rattle.virtual_map.specs.States.{AreOneRam};
+ghost use Rattle.image_services.specs.Images.{handle_of};
+ghost use Rattle.image_services.specs.Blocks.{block_bytes as fields_bytes};
+ghost use Rattle.image_services.specs.Placing.{displacement, page_count};
+ghost use Rattle.image_services.specs.Stores.{Store};
+ghost use Rattle.image_services.specs.Loads.{lacks_frames, loaded_image, loaded_memory, load_of, loaded_file, stored};
+ghost use Rattle.image_services.specs.Views.{LoadGives, Within, place_by, file_image};
+
+use crate::block::block_bytes;
+use crate::claiming::{Claim, claim_pages};
+use crate::images::{Images, Loaded};
+use crate::marks::lacks_frames;
+use crate::reading::{FileImage, move_sites, read_file};
+use crate::refusal::LoadRefusal;
+use crate::unload::page_index;
+use crate::writing::write_loaded;
+use guest_memory::GuestMemory;
+use page_alloc::{Layout, PageMap};
+use pe_image::Image;
+use pool_alloc::Pool;
+use std::alloc::{AllocError, Global};
+
+/// The most handles that are made in all.
+const HANDLES: u64 = (1 << 60) - 1;
+
+/// The displacement of what moves from one address to another, modulo 2^64.
+fn displacement(from: u64, to: u64) -> u64
+    requires from { from % 4096 ≡ 0 }
+    requires to { to % 4096 ≡ 0 }
+    ensures value { result ≡ displacement from to }
+    ensures even { result % 4096 ≡ 0 }
+{
+    to.wrapping_sub(from)
+}
+
+/// Whether more than 65,536 pages would be touched once an image is loaded.
+fn lacks_room(
+    alloc: Global,
+    layout: &Layout,
+    memory: &GuestMemory,
+    claim: &Claim,
+    image: &Image,
+) -> Result<bool, AllocError>
+    requires base { memory.now.base ≡ layout.now.base }
+    requires within { Within memory.now.base memory.now.pages (place_by claim.now) (page_count (fields_of image.now)) }
+    requires image { IsImage (fields_of image.now) }
+    ensures { IfOk result (λ lacks. lacks ≡ lacks_frames memory.now (place_by claim.now) (fields_of image.now)) }
+{
+    memory.whole();
+    let page = page_index(layout, memory, claim.block);
+    let first = page_index(layout, memory, claim.base);
+    lacks_frames(alloc, memory, page, first, (image.size + 4095) / 4096)
+}
+
+/// An image as it stands in the list, so many handles having been made.
+fn loaded(claim: &Claim, image: &Image, made: u64) -> Loaded
+    requires image { IsImage (fields_of image.now) }
+    requires base { claim.now.base ≤ 2 ^ 47 }
+    requires made { made < 2 ^ 60 - 1 }
+    ensures { result ≡ loaded_image (place_by claim.now) (fields_of image.now) made }
+{
+    Loaded {
+        handle: 16 * (made + 1),
+        base: claim.base,
+        pages: (image.size + 4095) / 4096,
+        subsystem: image.subsystem,
+        entry: claim.base + u64::from(image.entry),
+        block: claim.block,
+        started: false,
+    }
+}
+
+/// Writes an image and its block where they lie. There are frames for all their pages.
+fn write_with_block(
+    alloc: Global,
+    layout: &Layout,
+    memory: &mut GuestMemory,
+    claim: &Claim,
+    image: &Image,
+    bytes: &[u8],
+    parent: u64,
+) -> Result<(), AllocError>
+    requires base { memory.old.base ≡ layout.now.base }
+    requires within { Within memory.old.base memory.old.pages (place_by claim.now) (page_count (fields_of image.now)) }
+    requires image { IsImage (fields_of image.now) }
+    requires bytes { length bytes.now ≡ in_pages image.now.size }
+    requires frames { lacks_frames memory.old (place_by claim.now) (fields_of image.now) ≡ false }
+    ensures ok { OnOk result (memory.new ≡ loaded_memory memory.old (place_by claim.now) (fields_of image.now) bytes.now (fields_bytes parent layout.now.system claim.now.base image.now.size image.now.subsystem)) }
+    ensures err { OnErr result (TouchedBesides memory.old memory.new) }
+    ensures base { memory.new.base ≡ memory.old.base }
+    ensures pages { memory.new.pages ≡ memory.old.pages }
+{
+    let block = block_bytes(
+        alloc,
+        parent,
+        layout.system,
+        claim.base,
+        image.size,
+        image.subsystem,
+    )?;
+    write_loaded(layout, memory, claim, image, bytes, block.as_slice())
+}
+
+/// Stores an image at the place that was found for it.
+#[tactic(auto, unfolding(crate::specs::Loads::stored))]
+fn store(
+    alloc: Global,
+    images: &mut Images,
+    layout: &Layout,
+    memory: &mut GuestMemory,
+    pages: &mut PageMap,
+    pool: &mut Pool,
+    made: &mut u64,
+    image: &Image,
+    bytes: &[u8],
+    claim: Claim,
+    parent: u64,
+) -> Result<u64, LoadRefusal>
+    requires room { length images.old < 16 }
+    requires ram { AreOneRam layout.now memory.old pages.old }
+    requires together { Together pool.old pages.old }
+    requires image { IsImage (fields_of image.now) }
+    requires bytes { length bytes.now ≡ in_pages image.now.size }
+    requires within { Within memory.old.base memory.old.pages (place_by claim) (page_count (fields_of image.now)) }
+    requires base { claim.pages.base ≡ pages.old.base }
+    requires count { length claim.pages.pages ≡ length pages.old.pages }
+    requires claimed { Together claim.pool claim.pages }
+    ensures gives { LoadGives result (stored layout.now (record { images = images.old; memory = memory.old; pages = pages.old; pool = pool.old }) made.old parent (fields_of image.now) (place_by claim) bytes.now) (record { images = images.old; memory = memory.old; pages = pages.old; pool = pool.old }) (record { images = images.new; memory = memory.new; pages = pages.new; pool = pool.new }) made.old made.new }
+    ensures ram { AreOneRam layout.now memory.new pages.new }
+    ensures together { Together pool.new pages.new }
+{
+    memory.whole();
+    if *made >= HANDLES {
+        return Err(LoadRefusal::Full);
+    }
+    if lacks_room(alloc, layout, memory, &claim, image)? {
+        return Err(LoadRefusal::Frames);
+    }
+    let loaded = loaded(&claim, image, *made);
+    let more = images.with(alloc, loaded)?;
+    write_with_block(alloc, layout, memory, &claim, image, bytes, parent)?;
+    *images = more;
+    *pages = claim.pages;
+    *pool = claim.pool;
+    *made += 1;
+    Ok(loaded.handle)
+}
+
+/// Finds a place for the image of a file, moves it there and stores it.
+#[tactic(auto, unfolding(crate::specs::Loads::loaded_file))]
+fn load_file(
+    alloc: Global,
+    images: &mut Images,
+    layout: &Layout,
+    memory: &mut GuestMemory,
+    pages: &mut PageMap,
+    pool: &mut Pool,
+    made: &mut u64,
+    file: FileImage,
+    parent: u64,
+) -> Result<u64, LoadRefusal>
+    requires room { length images.old < 16 }
+    requires ram { AreOneRam layout.now memory.old pages.old }
+    requires together { Together pool.old pages.old }
+    requires image { IsImage (fields_of file.image) }
+    requires bytes { length file.bytes.items ≡ in_pages file.image.size }
+    requires sites { AreSites (length file.bytes.items) file.sites.items }
+    ensures gives { LoadGives result (loaded_file layout.now (record { images = images.old; memory = memory.old; pages = pages.old; pool = pool.old }) made.old parent (file_image file)) (record { images = images.old; memory = memory.old; pages = pages.old; pool = pool.old }) (record { images = images.new; memory = memory.new; pages = pages.new; pool = pool.new }) made.old made.new }
+    ensures ram { AreOneRam layout.now memory.new pages.new }
+    ensures together { Together pool.new pages.new }
+{
+    let FileImage {
+        image,
+        mut bytes,
+        sites,
+    } = file;
+    let claim = claim_pages(pages, pool, &image)?;
+    let by = displacement(image.image_base, claim.base);
+    move_sites(bytes.as_mut_slice(), sites.as_slice(), by)?;
+    store(
+        alloc,
+        images,
+        layout,
+        memory,
+        pages,
+        pool,
+        made,
+        &image,
+        bytes.as_slice(),
+        claim,
+        parent,
+    )
+}
+
+/// Loads the image of a file of at most 4 MiB for a parent, which is a handle or 0, and answers its handle. `made` is how
+/// many handles were made so far. The image is moved to its pages, whose rights are those of its sections, and its block
+/// holds an EFI_LOADED_IMAGE_PROTOCOL (UEFI 2.10, 9.1). After a refusal all is as it was, but that after want of memory
+/// more pages may be touched.
+#[tactic(auto, unfolding(crate::specs::Loads::load_of))]
+pub fn load_image(
+    alloc: Global,
+    images: &mut Images,
+    layout: &Layout,
+    memory: &mut GuestMemory,
+    pages: &mut PageMap,
+    pool: &mut Pool,
+    made: &mut u64,
+    bytes: &[u8],
+    parent: u64,
+) -> Result<u64, LoadRefusal>
+    requires ram { AreOneRam layout.now memory.old pages.old }
+    requires together { Together pool.old pages.old }
+    requires file { length bytes.now ≤ 0x400000 }
+    ensures gives { LoadGives result (load_of layout.now (record { images = images.old; memory = memory.old; pages = pages.old; pool = pool.old }) made.old bytes.now parent) (record { images = images.old; memory = memory.old; pages = pages.old; pool = pool.old }) (record { images = images.new; memory = memory.new; pages = pages.new; pool = pool.new }) made.old made.new }
+    ensures ram { AreOneRam layout.now memory.new pages.new }
+    ensures together { Together pool.new pages.new }
+{
+    if !images.has_room() {
+        return Err(LoadRefusal::TooMany);
+    }
+    let file = read_file(alloc, bytes)?;
+    load_file(
+        alloc, images, layout, memory, pages, pool, made, file, parent,
+    )
+}
