@@ -8,6 +8,7 @@ pub mod StepLemmas
 pub mod PlanLemmas
 pub mod GivesLemmas
 pub mod BuildLemmas
+pub mod DumpLemmas
 pub mod InputLemmas
 pub mod RunPlanLemmas
 pub mod PlaceLemmas

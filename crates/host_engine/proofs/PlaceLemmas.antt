@@ -57,3 +57,10 @@ is_handed view images other name place files slice inputs has is same whole view
     let b : length (map view files) ≡ length files = length-map files view in
     let e : length (map view files) ≡ length inputs.images = ap (λ (i : Inputs). length i.images) viewed in
     omega (arith, below, at, a, b, e, many)
+
+-- the place of a known image is below how many there are
+pub place_below : (images other : List ImageSpec) (name : List ℕ) (place n : ℕ) → has_image other name ≡ true → place ≡ place_of images name → images ≡ other → n ≡ length other → place < n
+place_below images other name place n has is same many =
+    let below : place_of other name < length other = place_in other name has in
+    let at : place ≡ place_of other name = is ∙ ap (λ (l : List ImageSpec). place_of l name) same in
+    omega (arith, below, at, many)

@@ -1,55 +1,91 @@
 -- Steps under way: what was put, and what is still to come.
-use Rattle.std.proofs.Common.{◌≡◌, ℕ, List, [], ◌∷◌, ◌++◌, Option, Bool, true, false, length, get_or, drop, ◌<◌, ◌≤◌, ◌+◌, refl, sym, ap, subst, ◌∙◌, append_assoc, append-nil}
-use Rattle.std.proofs.lemmas.List.{drop_more, drop_all}
+use Rattle.memory_map.specs.declared.descriptor.Descriptor.{Descriptor}
+use Rattle.std.proofs.Common.{◌≡◌, ℕ, suc, arith, map, List, [], ◌∷◌, ◌++◌, Option, Result, Err, Bool, true, false, length, get_or, drop, ◌<◌, ◌≤◌, ◌+◌, refl, sym, ap, subst, ◌∙◌, append_assoc, append-nil}
+use Rattle.std.proofs.lemmas.List.{drop_more, drop_all, length-replicate}
 use Rattle.record_text.specs.declared.line.Line.{Line}
 use Rattle.record_text.specs.declared.line.Line.TheVariants as lines
 use Rattle.host_script.specs.declared.script.Step.{Step}
 use Rattle.uh_base.specs.Told.{grown, GrownByPart}
-use Rattle.firmware_core.specs.declared.machine.LoadedImage.{LoadedImage}
-use Rattle.firmware_core.specs.Machines.{State}
-use Rattle.firmware_core.specs.Loads.{begun}
-use Rattle.host_engine.specs.declared.job.JobEnd.{JobEnd}
+use Rattle.firmware_core.specs.declared.happened.Happened.{Happened}
+use Rattle.firmware_core.specs.Turns.{State}
 use Rattle.host_engine.specs.Inputs.{Inputs}
 use Rattle.host_script.specs.Plain.{Plain}
-use Rattle.host_engine.specs.declared.script_run.Running.{Running}
-use Rattle.host_engine.specs.Jobs.{Ended, job_of, line_bytes, bytes_of}
-use Rattle.host_engine.specs.ScriptRuns.{Run, Ran, Stepped, Made, then_run, step_made, run_from, run_of, at_opening, image_run, last_line, left_behind, is_halt}
-use Rattle.host_engine.proofs.PutLemmas.{part_behind, part_before, grown-grown}
+use Rattle.host_engine.specs.declared.job.Stop.{Stop}
+use Rattle.page_alloc.specs.Pages.{PageList}
+use Rattle.memory_map.specs.Map.{map_of}
+use Rattle.firmware_core.specs.Jobs.{Job, job_of}
+use Rattle.host_engine.specs.Jobs.{Ended, Puts, line_bytes, bytes_of}
+use Rattle.host_engine.specs.ScriptRuns.{row_of, map_lines, Running, Run, Ran, Stepped, Made, then_run, step_made, run_from, run_of, at_opening, job_over, last_line}
+use Rattle.host_engine.proofs.PutLemmas.{part_behind, grown-grown, both, first}
 use Rattle.host_engine.proofs.LineLemmas.{grown-nil, bytes_of-last, put_more, part_more}
 
--- ---- a run of an image
+-- ---- a job with its last line
 
-module _ (name : List ℕ) (bound : ℕ) (r : Running) (image : LoadedImage) (old now new : Option (List ℕ)) where
-  pub in_job : GrownByPart old (bytes_of (job_of bound (begun r.machine image)).lines) new → GrownByPart old (bytes_of (image_run name bound r image).lines) new
-  unfolding image_run
-  in_job h =
-      let job = job_of bound (begun r.machine image) in
-      part_before old new (bytes_of job.lines) (line_bytes (last_line name job.steps job.end)) _ (sym (bytes_of-last job.lines (last_line name job.steps job.end))) h
+job_text : (name handles : List ℕ) (job : Job) → bytes_of job.lines ++ line_bytes (last_line name job.end) ≡ bytes_of (job_over name handles job).lines
+job_text name handles job = sym (bytes_of-last job.lines (last_line name job.end))
 
-  pub in_last : (end : JobEnd) (steps : ℕ) (state : State) → Ended (job_of bound (begun r.machine image)) end steps state → now ≡ grown old (bytes_of (job_of bound (begun r.machine image)).lines) → GrownByPart now (line_bytes (last_line name steps end)) new → GrownByPart old (bytes_of (image_run name bound r image).lines) new
-  unfolding image_run
-  in_last end steps state ended put h =
-      let job = job_of bound (begun r.machine image) in
-      let same : last_line name steps end ≡ last_line name job.steps job.end = ap (λ n. last_line name n end) ended.is_steps ∙ ap (λ (e : JobEnd). last_line name job.steps e) ended.is_end in
-      part_behind old now new (bytes_of job.lines) (line_bytes (last_line name steps end)) _ put
-      (ap (λ (l : Line). bytes_of job.lines ++ line_bytes l) same ∙ sym (bytes_of-last job.lines (last_line name job.steps job.end))) h
+module _ (name handles : List ℕ) (job : Job) (end : Happened) (state : State) (ended : Ended job end state) where
+  ended_text : bytes_of job.lines ++ line_bytes (last_line name end) ≡ bytes_of (job_over name handles job).lines
+  ended_text = ap (λ (e : Happened). bytes_of job.lines ++ line_bytes (last_line name e)) ended.is_end ∙ job_text name handles job
 
-  pub over : (end : JobEnd) (steps : ℕ) (state : State) (halted : Bool) (to : Running) → Ended (job_of bound (begun r.machine image)) end steps state
-      → halted ≡ is_halt end → to ≡ record { machine = left_behind state end; place = r.place } → Made (image_run name bound r image) halted to
-  unfolding image_run
-  over end steps state halted to ended h left =
-      let job = job_of bound (begun r.machine image) in
-      let state_same : left_behind state end ≡ left_behind job.state job.end = ap (λ (s : State). left_behind s end) ended.is_state ∙ ap (left_behind job.state) ended.is_end in
-      record { is_halted = h ∙ ap is_halt ended.is_end; is_running = left ∙ ap (λ (s : State). record { machine = s; place = r.place }) state_same }
+  pub job_put : {X : Type 0} (r : Result X Stop) (old now new : Option (List ℕ)) (f g h : ℕ) → now ≡ grown old (bytes_of job.lines) → f ≤ g → Puts r (line_bytes (last_line name end)) now g new h → Puts r (bytes_of (job_over name handles job).lines) old f new h
+  job_put r old now new f g h put le puts = both r (bytes_of job.lines) (line_bytes (last_line name end)) _ old now new f g h ended_text put le puts
 
-  pub put_over : (end : JobEnd) (steps : ℕ) (state : State) → Ended (job_of bound (begun r.machine image)) end steps state → now ≡ grown old (bytes_of (job_of bound (begun r.machine image)).lines) → new ≡ grown now (line_bytes (last_line name steps end))
-      → new ≡ grown old (bytes_of (image_run name bound r image).lines)
-  unfolding image_run
-  put_over end steps state ended first last =
-      let job = job_of bound (begun r.machine image) in
-      let same : last_line name steps end ≡ last_line name job.steps job.end = ap (λ n. last_line name n end) ended.is_steps ∙ ap (λ (e : JobEnd). last_line name job.steps e) ended.is_end in
-      last ∙ ap (λ (o : Option (List ℕ)). grown o (line_bytes (last_line name steps end))) first ∙ grown-grown old (bytes_of job.lines) (line_bytes (last_line name steps end))
-      ∙ ap (λ (l : Line). grown old (bytes_of job.lines ++ line_bytes l)) same ∙ ap (grown old) (sym (bytes_of-last job.lines (last_line name job.steps job.end)))
+pub job_stops : (X Y : Type 0) (name handles : List ℕ) (job : Job) (stop : Stop) (old new : Option (List ℕ)) (f h : ℕ) → Puts {X = X} (Err stop) (bytes_of job.lines) old f new h → Puts {X = Y} (Err stop) (bytes_of (job_over name handles job).lines) old f new h
+job_stops X Y name handles job stop old new f h puts = first X Y stop (bytes_of job.lines) (line_bytes (last_line name job.end)) _ old new f h (job_text name handles job) puts
+
+-- the same, where the run is told as another
+module _ (name : List ℕ) (x r : Running) (is : x ≡ r) where
+  pub finish_put : {X : Type 0} (answer : Result X Stop) (end : Happened) (state : State) → Ended (job_of x.machine) end state → (old now new : Option (List ℕ)) (f g h : ℕ) → now ≡ grown old (bytes_of (job_of x.machine).lines) → f ≤ g
+      → Puts answer (line_bytes (last_line name end)) now g new h → Puts answer (bytes_of (job_over name r.handles (job_of r.machine)).lines) old f new h
+  finish_put answer end state ended old now new f g h put le puts =
+      subst (λ (y : Running). Puts answer (bytes_of (job_over name y.handles (job_of y.machine)).lines) old f new h) is (job_put name x.handles (job_of x.machine) end state ended answer old now new f g h put le puts)
+
+  pub finish_stops : (X Y : Type 0) (stop : Stop) (old new : Option (List ℕ)) (f h : ℕ) → Puts {X = X} (Err stop) (bytes_of (job_of x.machine).lines) old f new h → Puts {X = Y} (Err stop) (bytes_of (job_over name r.handles (job_of r.machine)).lines) old f new h
+  finish_stops X Y stop old new f h puts =
+      subst (λ (y : Running). Puts {X = Y} (Err stop) (bytes_of (job_over name y.handles (job_of y.machine)).lines) old f new h) is (job_stops X Y name x.handles (job_of x.machine) stop old new f h puts)
+
+-- ---- the memory map
+
+map_text : (pages : PageList) (key : ℕ) (rows : List Descriptor) → key ≡ pages.key → rows ≡ map_of pages → line_bytes (lines.MemmapKey key) ++ bytes_of (map row_of rows) ≡ bytes_of (map_lines pages)
+unfolding map_lines
+map_text pages key rows k r = ap (λ n. line_bytes (lines.MemmapKey n) ++ bytes_of (map row_of rows)) k ∙ ap (λ (ds : List Descriptor). line_bytes (lines.MemmapKey pages.key) ++ bytes_of (map row_of ds)) r
+
+pub map_put : {X : Type 0} (r : Result X Stop) (pages : PageList) (key : ℕ) (rows : List Descriptor) → key ≡ pages.key → rows ≡ map_of pages → (old now new : Option (List ℕ)) (f g h : ℕ) → now ≡ grown old (line_bytes (lines.MemmapKey key)) → f ≤ g
+    → Puts r (bytes_of (map row_of rows)) now g new h → Puts r (bytes_of (map_lines pages)) old f new h
+map_put r pages key rows k d old now new f g h put le puts = both r (line_bytes (lines.MemmapKey key)) (bytes_of (map row_of rows)) _ old now new f g h (map_text pages key rows k d) put le puts
+
+pub map_stops : (X Y : Type 0) (stop : Stop) (pages : PageList) (key : ℕ) → key ≡ pages.key → (old new : Option (List ℕ)) (f h : ℕ) → Puts {X = X} (Err stop) (line_bytes (lines.MemmapKey key)) old f new h → Puts {X = Y} (Err stop) (bytes_of (map_lines pages)) old f new h
+map_stops X Y stop pages key k old new f h puts = first X Y stop (line_bytes (lines.MemmapKey key)) (bytes_of (map row_of (map_of pages))) _ old new f h (map_text pages key (map_of pages) k refl) puts
+
+-- ---- the rows of a memory map
+
+-- so far some rows were put
+pub record RowsSoFar (whole rest : List Line) (old now : Option (List ℕ)) : Type 0 where
+  pub before : List Line
+  pub same : whole ≡ before ++ rest
+  pub put : now ≡ grown old (bytes_of before)
+
+pub rows_begin : (rows : List Line) (told : Option (List ℕ)) → RowsSoFar rows rows told told
+rows_begin rows told = record { before = []; same = refl; put = grown-nil told }
+
+row_bytes : (line : Line) → line_bytes line ≡ bytes_of (line ∷ [])
+row_bytes line = sym (append-nil (line_bytes line))
+
+module _ (whole : List Line) (row : Line) (rest : List Line) (old now new : Option (List ℕ)) (so_far : RowsSoFar whole (row ∷ rest) old now) where
+  pub row_put : new ≡ grown now (line_bytes row) → RowsSoFar whole rest old new
+  row_put put = record {
+    before = so_far.before ++ row ∷ [];
+    same = so_far.same ∙ sym (append_assoc so_far.before (row ∷ []) rest);
+    put = put_more old now new so_far.before (row ∷ []) so_far.put (put ∙ ap (grown now) (row_bytes row));
+  }
+
+  pub row_stops : GrownByPart now (line_bytes row) new → GrownByPart old (bytes_of whole) new
+  row_stops part =
+      part_more old now new so_far.before (row ∷ []) rest whole so_far.put so_far.same (subst (λ (bytes : List ℕ). GrownByPart now bytes new) (row_bytes row) part)
+
+pub rows_end : (whole : List Line) (old now : Option (List ℕ)) → RowsSoFar whole [] old now → now ≡ grown old (bytes_of whole)
+rows_end whole old now so_far = so_far.put ∙ ap (λ (x : List Line). grown old (bytes_of x)) (sym (so_far.same ∙ append-nil so_far.before))
 
 -- ---- a run of steps
 
@@ -64,12 +100,18 @@ pub record SoFar (whole rest : Run) (old now : Option (List ℕ)) : Type 0 where
 pub begins : (run : Run) (told : Option (List ℕ)) → SoFar run run told told
 begins run told = record { before = []; same = refl; put = grown-nil told }
 
+pub opened_for : (script : Plain) (r : Running) (base pages images : ℕ) → r ≡ at_opening base pages images → base ≡ script.ram_base → pages ≡ script.ram_pages → images ≡ length script.image → r ≡ at_opening script.ram_base script.ram_pages (length script.image)
+opened_for script r base pages images e b p n = e ∙ ap (λ k. at_opening k pages images) b ∙ ap (λ k. at_opening script.ram_base k images) p ∙ ap (λ k. at_opening script.ram_base script.ram_pages k) n
+
+pub handles_opened : (r : Running) (base pages images : ℕ) → r ≡ at_opening base pages images → length r.handles ≡ images
+handles_opened r base pages images e = ap (λ (x : Running). length x.handles) e ∙ length-replicate {A = ℕ} images 0
+
 -- before the first step
-pub opens : (script : Plain) (inputs : Inputs) (ram_base : ℕ) (steps : List Step) (told : Option (List ℕ)) → ram_base ≡ script.ram_base → steps ≡ script.step → SoFar (run_of script inputs) (run_from script inputs (at_opening ram_base) steps) told told
+pub opens : (script : Plain) (inputs : Inputs) (r : Running) (steps : List Step) (told : Option (List ℕ)) → r ≡ at_opening script.ram_base script.ram_pages (length script.image) → steps ≡ script.step → SoFar (run_of script inputs) (run_from script inputs r steps) told told
 unfolding run_of
-opens script inputs ram_base steps told base same =
-    subst (λ (b : ℕ). SoFar (run_of script inputs) (run_from script inputs (at_opening b) steps) told told) (sym base)
-    (subst (λ (ss : List Step). SoFar (run_of script inputs) (run_from script inputs (at_opening script.ram_base) ss) told told) (sym same) (begins (run_of script inputs) told))
+opens script inputs r steps told at_start same =
+    subst (λ (x : Running). SoFar (run_of script inputs) (run_from script inputs x steps) told told) (sym at_start)
+    (subst (λ (ss : List Step). SoFar (run_of script inputs) (run_from script inputs (at_opening script.ram_base script.ram_pages (length script.image)) ss) told told) (sym same) (begins (run_of script inputs) told))
 
 goes : (step : Stepped) (rest : Run) → false ≡ step.halted → then_run step rest ≡ behind step.lines rest
 goes step rest h = let back = sym h in rw back refl
@@ -124,3 +166,14 @@ module _ (script : Plain) (inputs : Inputs) (whole : Run) (steps : List Step) (i
 
   pub stops_at_end : GrownByPart now (line_bytes lines.End) new → GrownByPart old (bytes_of whole.lines) new
   stops_at_end p = part_behind old now new (bytes_of so_far.before) (line_bytes lines.End) (bytes_of whole.lines) so_far.put (sym whole_bytes) p
+
+-- ---- rows by descriptor
+
+pub row_first : (whole : List Line) (d : Descriptor) (ds rest : List Descriptor) (old now : Option (List ℕ)) → ds ≡ d ∷ rest → RowsSoFar whole (map row_of ds) old now → RowsSoFar whole (row_of d ∷ map row_of rest) old now
+row_first whole d ds rest old now e so_far = subst (λ (x : List Descriptor). RowsSoFar whole (map row_of x) old now) e so_far
+
+pub rows_none : (whole : List Line) (ds : List Descriptor) (old now : Option (List ℕ)) → ds ≡ [] → RowsSoFar whole (map row_of ds) old now → RowsSoFar whole [] old now
+rows_none whole ds old now e so_far = subst (λ (x : List Descriptor). RowsSoFar whole (map row_of x) old now) e so_far
+
+pub fewer_rows : (d : Descriptor) (ds rest : List Descriptor) → ds ≡ d ∷ rest → length rest < length ds
+fewer_rows d ds rest e = let same : length ds ≡ suc (length rest) = ap length e in omega arith

@@ -3,6 +3,9 @@ use Rattle.std.specs.Prelude.{ℕ, ◌++◌, List, [], ◌∷◌, Bool, true, fa
 use Rattle.std.specs.Fmt.{decimal}
 use Rattle.rv_step.specs.declared.ends.Trap.TheVariants.{Ebreak, Illegal, Ecall, Fault}
 use Rattle.guest_build.specs.Assembled.{assembled}
+use Rattle.image_dump.specs.Reports as dump
+use Rattle.image_dump.specs.Reports.{Report, image_report}
+use Rattle.image_dump.specs.Listings.{list_report}
 use Rattle.host_script.specs.Faults.{Place, kind_name}
 use Rattle.host_script.specs.Plain.{Plain}
 use Rattle.host_script.specs.Script.{script_in}
@@ -41,6 +44,10 @@ abbrev pub build_answer : Made → Answer
 build_answer (Ok image) = Prints AtOnce image false
 build_answer (Err text) = NotAssembled text
 
+-- the lines on an image file, where a refused file counts as halted
+abbrev pub report_answer : Report → Answer
+report_answer report = Prints ByLines (dump.bytes_of report.lines) report.is_refused
+
 -- ---- the run of a script
 
 -- The file of an image is read, and its text is assembled.
@@ -76,4 +83,6 @@ plan_of words.Help = Over (Prints Fixed help_text false)
 plan_of words.Version = Over (Prints Fixed version_text false)
 plan_of (words.Flat name bound) = Reads (code_file name) (λ file. Over (flat_answer file bound))
 plan_of (words.Build name) = Reads (code_file name) (λ file. Over (build_answer (in_words name (assembled_file file))))
+plan_of (words.Image name) = Reads (code_file name) (λ file. Over (report_answer (image_report file)))
+plan_of (words.Listing name) = Reads (code_file name) (λ file. Over (report_answer (list_report file)))
 plan_of (words.Run name) = Reads (script_file name) (λ document. script_plan (script_in document))

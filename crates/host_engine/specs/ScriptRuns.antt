@@ -1,5 +1,5 @@
 -- The run of a script: the lines of its steps, in order.
-use Rattle.std.specs.Prelude.{◌≡◌, ℕ, List, [], ◌∷◌, ◌++◌, ◌==◌, slice_index_or, Bool, true, false, Option, Some, None, Result, Ok, Err, if◌then◌else◌}
+use Rattle.std.specs.Prelude.{◌≡◌, ℕ, List, [], ◌∷◌, ◌++◌, ◌==◌, length, map, replicate, slice_index_or, slice_set, Bool, true, false, Option, if◌then◌else◌}
 use Rattle.std.specs.List.{position_or_len}
 use Rattle.std.specs.Str.{bytes_eq}
 use Rattle.uh_base.specs.Statuses.{invalid_parameter}
@@ -10,18 +10,21 @@ use Rattle.record_text.specs.declared.line.Line.TheVariants as lines
 use Rattle.host_script.specs.Plain.{Plain}
 use Rattle.host_script.specs.declared.script.ImageSpec.{ImageSpec}
 use Rattle.host_script.specs.declared.script.Step.{Step}
-use Rattle.host_script.specs.declared.script.Step.TheVariants.{Load, Start}
-use Rattle.firmware_core.specs.declared.machine.LoadedImage.{LoadedImage}
-use Rattle.firmware_core.specs.Machines.{State}
-use Rattle.firmware_core.specs.Loads.{load_of, begun, ended}
+use Rattle.host_script.specs.declared.script.Step.TheVariants.{Load, Start, MemMap}
+use Rattle.page_alloc.specs.Pages.{PageList}
+use Rattle.memory_map.specs.declared.descriptor.Descriptor.{Descriptor}
+use Rattle.memory_map.specs.Map.{map_of}
+use Rattle.firmware_core.specs.declared.happened.Happened.{Happened}
+use Rattle.firmware_core.specs.declared.happened.Happened.TheVariants.{Turned, Said, Left, Halted}
+use Rattle.firmware_core.specs.declared.job.Job.TheVariants as jobs
 use Rattle.firmware_core.specs.Opening.{opened}
-use Rattle.host_engine.specs.declared.job.JobEnd.{JobEnd}
-use Rattle.host_engine.specs.declared.job.JobEnd.TheVariants.{Returned, Halted}
+use Rattle.firmware_core.specs.Turns.{State}
+use Rattle.firmware_core.specs.Jobs.{Begun, begun, Job, job_of}
+use Rattle.firmware_core.specs.Loads.{LoadDone, loaded}
 use Rattle.host_engine.specs.Inputs.{Inputs}
 use Rattle.host_engine.specs.declared.script_run.Outcome.{Outcome}
 use Rattle.host_engine.specs.declared.script_run.Outcome.TheVariants as outcomes
-use Rattle.host_engine.specs.declared.script_run.Running.{Running}
-use Rattle.host_engine.specs.Jobs.{Job, job_of, bytes_of}
+use Rattle.host_engine.specs.Jobs.{bytes_of}
 
 -- the place of an image among those of a script, by its name
 abbrev pub place_of : List ImageSpec → List ℕ → ℕ
@@ -31,6 +34,11 @@ place_of images name = position_or_len (λ image. bytes_eq image.name name) imag
 abbrev pub file_at : List (List ℕ) → ℕ → List ℕ
 file_at files place = slice_index_or files place []
 
+-- the machine of a run, and the handle of each image of the script that was loaded last, 0 where none was
+pub record Running : Type 0 where
+  pub machine : State
+  pub handles : List ℕ
+
 -- a step's lines, whether the run ends with it, and the run behind it
 pub record Stepped : Type 0 where
   pub lines : List Line
@@ -39,73 +47,71 @@ pub record Stepped : Type 0 where
 
 -- ---- load
 
-abbrev pub base_of : Option LoadedImage → ℕ
-base_of None = 0
-base_of (Some image) = image.base
+-- the handles with that of an image at a place, unless it was refused
+abbrev pub with_handle : List ℕ → ℕ → ℕ → List ℕ
+with_handle handles place handle = if handle == 0 then handles else slice_set handles place handle
 
-abbrev pub pages_of : Option LoadedImage → ℕ
-pages_of None = 0
-pages_of (Some image) = image.pages
-
-abbrev pub loaded : List ℕ → ℕ → Running → Result State ℕ → Stepped
-loaded name place r (Ok machine) = record {
-  lines = lines.Load name 0 (base_of machine.image) (pages_of machine.image) ∷ [];
+abbrev pub load_comes_to : List ℕ → ℕ → List ℕ → LoadDone → Stepped
+load_comes_to name place handles done = record {
+  lines = lines.Load name done.status done.base done.pages ∷ [];
   halted = false;
-  running = record { machine = machine; place = place };
+  running = record { machine = done.state; handles = with_handle handles place done.handle };
 }
-loaded name place r (Err status) = record { lines = lines.Load name status 0 0 ∷ []; halted = false; running = r }
 
 -- the load of an image by its name, its place and its file
 unfoldable pub load_made : List ℕ → ℕ → List ℕ → Running → Stepped
-load_made name place file r = loaded name place r (load_of r.machine file)
+load_made name place file r = load_comes_to name place r.handles (loaded r.machine file)
 
 -- ---- start
 
-abbrev pub not_started : Option LoadedImage → Option LoadedImage
-not_started None = None
-not_started (Some image) = if image.started then None else Some image
+-- the last line of a job
+abbrev pub last_line : List ℕ → Happened → Line
+last_line name Turned = lines.End
+last_line name (Said line) = line
+last_line name (Left value steps) = lines.Start name value steps
+last_line name (Halted halt) = lines.Halt halt.cause halt.pc halt.at
 
--- the image at a place of the script, if it was loaded last, is still there and wasn't started
-abbrev pub startable : ℕ → Running → Option LoadedImage
-startable place r = if r.place == place then not_started r.machine.image else None
+abbrev pub is_halt : Happened → Bool
+is_halt Turned = false
+is_halt (Said line) = false
+is_halt (Left value steps) = false
+is_halt (Halted halt) = true
 
--- the line and the state that the end of a job leaves
-abbrev pub last_line : List ℕ → ℕ → JobEnd → Line
-last_line name steps (Returned status) = lines.Start name status steps
-last_line name steps (Halted cause pc address) = lines.Halt cause pc address
+abbrev pub job_over : List ℕ → List ℕ → Job → Stepped
+job_over name handles job = record { lines = job.lines ++ last_line name job.end ∷ []; halted = is_halt job.end; running = record { machine = job.state; handles = handles } }
 
-abbrev pub left_behind : State → JobEnd → State
-left_behind s (Returned status) = ended s status
-left_behind s (Halted cause pc address) = s
+-- An image that can't begin is refused.
+abbrev pub start_comes_to : List ℕ → Running → Begun → Stepped
+start_comes_to name r start =
+    if start.begins then job_over name r.handles (job_of start.state)
+    else record { lines = lines.Start name invalid_parameter 0 ∷ []; halted = false; running = record { machine = start.state; handles = r.handles } }
 
-abbrev pub is_halt : JobEnd → Bool
-is_halt (Returned status) = false
-is_halt (Halted cause pc address) = true
-
-abbrev pub job_over : List ℕ → ℕ → Job → Stepped
-job_over name place job = record {
-  lines = job.lines ++ last_line name job.steps job.end ∷ [];
-  halted = is_halt job.end;
-  running = record { machine = left_behind job.state job.end; place = place };
-}
-
--- a job of an image, from its beginning
-unfoldable pub image_run : List ℕ → ℕ → Running → LoadedImage → Stepped
-image_run name bound r image = job_over name r.place (job_of bound (begun r.machine image))
-
-abbrev pub started : List ℕ → ℕ → Running → Option LoadedImage → Stepped
-started name bound r None = record { lines = lines.Start name invalid_parameter 0 ∷ []; halted = false; running = r }
-started name bound r (Some image) = image_run name bound r image
+-- the handle of the image that was loaded last at a place, 0 where none was
+abbrev pub handle_at : List ℕ → ℕ → ℕ
+handle_at handles place = slice_index_or handles place 0
 
 -- the start of an image by its name and its place
 unfoldable pub start_made : List ℕ → ℕ → ℕ → Running → Stepped
-start_made name place bound r = started name bound r (startable place r)
+start_made name place bound r = start_comes_to name r (begun r.machine (jobs.Start (handle_at r.handles place) bound))
+
+-- ---- memmap
+
+abbrev pub row_of : Descriptor → Line
+row_of d = lines.MemmapRow d.memory_type d.start d.pages d.attribute
+
+-- the memory map: its key, and its descriptors in order of address
+unfoldable pub map_lines : PageList → List Line
+map_lines pages = lines.MemmapKey pages.key ∷ map row_of (map_of pages)
+
+abbrev pub map_made : Running → Stepped
+map_made r = record { lines = map_lines r.machine.firmware.runtime.pages; halted = false; running = r }
 
 -- ---- the run
 
 abbrev pub step_made : Plain → Inputs → Step → Running → Stepped
 step_made script inputs (Load name) r = load_made name (place_of script.image name) (file_at inputs.images (place_of script.image name)) r
 step_made script inputs (Start name bound) r = start_made name (place_of script.image name) bound r
+step_made script inputs MemMap r = map_made r
 
 -- the lines of a run, and whether its last line is a halt
 pub record Run : Type 0 where
@@ -119,13 +125,13 @@ unfoldable pub run_from : Plain → Inputs → Running → List Step → Run
 run_from script inputs r [] = record { lines = lines.End ∷ []; halted = false }
 run_from script inputs r (step ∷ steps) = then_run (step_made script inputs step r) (run_from script inputs (step_made script inputs step r).running steps)
 
--- 4,096 pages of RAM from an address on, and no image loaded
-abbrev pub at_opening : ℕ → Running
-at_opening ram_base = record { machine = opened ram_base 4096; place = 0 }
+-- RAM of so many pages from an address on, and none of so many images loaded
+abbrev pub at_opening : ℕ → ℕ → ℕ → Running
+at_opening ram_base ram_pages images = record { machine = record { firmware = opened ram_base ram_pages; steps = 0; bound = 0 }; handles = replicate images 0 }
 
 -- the run of a script over the files of its images
 unfoldable pub run_of : Plain → Inputs → Run
-run_of script inputs = run_from script inputs (at_opening script.ram_base) script.step
+run_of script inputs = run_from script inputs (at_opening script.ram_base script.ram_pages (length script.image)) script.step
 
 -- A step was made so.
 pub record Made (whole : Stepped) (halted : Bool) (running : Running) : Type 0 where

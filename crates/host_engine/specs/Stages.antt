@@ -2,6 +2,8 @@
 use Rattle.std.specs.Prelude.{ℕ, ◌≡◌, ◌≤◌, List, Option, Result, Ok, Err, string_bytes}
 use Rattle.uh_base.specs.Told.{FileMap}
 use Rattle.guest_build.specs.Assembled.{assembled}
+use Rattle.image_dump.specs.declared.stop.Stop.{Stop}
+use Rattle.image_dump.specs.declared.stop.Stop.TheVariants as stops
 use Rattle.host_engine.specs.declared.assembly.Unassembled.{Unassembled}
 use Rattle.host_engine.specs.declared.assembly.Unassembled.TheVariants.{Refused, Memory}
 use Rattle.host_engine.specs.declared.code.Code.{Code}
@@ -33,6 +35,11 @@ IsWhy Memory wanted = Unit {0}
 abbrev pub refusal_of : Unassembled → Refusal
 refusal_of (Refused text) = refusals.Assembly text
 refusal_of Memory = refusals.Memory
+
+-- why lines on an image file weren't put whole
+abbrev pub stop_refusal : Stop → Refusal
+stop_refusal stops.Write = refusals.Write
+stop_refusal stops.Memory = refusals.Memory
 
 -- Texts are assembled to this, seen by view, or refused.
 abbrev pub AssemblyGives : {X Y : Type 0} → (X → Y) → Result X Unassembled → Result Y (List ℕ) → Type 0

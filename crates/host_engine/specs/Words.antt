@@ -9,6 +9,8 @@ pub data Command : Type 0 where
   Version : Command
   Flat : (name : List ℕ) (bound : ℕ) → Command
   Build : (name : List ℕ) → Command
+  Image : (name : List ℕ) → Command
+  Listing : (name : List ℕ) → Command
   Run : (script : List ℕ) → Command
 
 -- a word that stands alone
@@ -27,9 +29,11 @@ word words i = slice_index_or words i []
 abbrev pub named : List ℕ → List ℕ → Option Command
 named command name =
     if bytes_eq command (codes "run") then Some (Run name)
-    else (if bytes_eq command (codes "build") then Some (Build name) else None)
+    else (if bytes_eq command (codes "build") then Some (Build name)
+    else (if bytes_eq command (codes "image") then Some (Image name)
+    else (if bytes_eq command (codes "list") then Some (Listing name) else None)))
 
--- `--help`, `--version`, `run SCRIPT`, `build FILE` or `flat FILE BOUND`; no other words have a form
+-- `--help`, `--version`, `run SCRIPT`, `build FILE`, `image FILE`, `list FILE` or `flat FILE BOUND`; no other words have a form
 unfoldable pub command_of : List (List ℕ) → Option Command
 command_of words =
     if length words == 1 then alone (word words 0)

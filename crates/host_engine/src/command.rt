@@ -19,6 +19,10 @@ pub enum Command<'a> {
     Flat { name: &'a str, bound: u64 },
     /// The image of an assembly text's file.
     Build { name: &'a str },
+    /// What an image file holds.
+    Image { name: &'a str },
+    /// The instructions of an image file.
+    Listing { name: &'a str },
     /// The run of a script's file.
     Run { script: &'a str },
 }
@@ -51,6 +55,10 @@ fn named<'a>(command: &str, name: &'a str) -> Option<Command<'a>>
         Some(Command::Run { script: name })
     } else if command == "build" {
         Some(Command::Build { name })
+    } else if command == "image" {
+        Some(Command::Image { name })
+    } else if command == "list" {
+        Some(Command::Listing { name })
     } else {
         None
     }

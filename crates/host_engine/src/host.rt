@@ -11,6 +11,7 @@ ghost use Rattle.host_engine.specs.Words.{Help, Version, command_of};
 
 use crate::build::build;
 use crate::command::{Command, read_words};
+use crate::dump::{image, list};
 use crate::flat::flat;
 use crate::message::explain;
 use crate::refusal::Refusal;
@@ -24,16 +25,18 @@ const HELP: &str = "uefihost: runs RISC-V code and prints what it came to
 
 uefihost run SCRIPT        run the steps of a script
 uefihost build FILE        assemble the text of FILE and write the image
+uefihost image FILE        print what the image FILE holds, or why it is refused
+uefihost list FILE         print the instructions of the image FILE
 uefihost flat FILE BOUND   put FILE at 0x40000000 and make at most BOUND steps
 uefihost --help            print this text
 uefihost --version         print the version
 
 SCRIPT is a TOML document of at most 1048576 bytes that names images and steps.
-FILE is at most 4194304 bytes of RV64IMC code, or of assembly text for build. BOUND is a
-number from 1 to 50000000.
+FILE is at most 4194304 bytes: of RV64IMC code for flat, of assembly text for build, of a
+PE32+ image for image and list. BOUND is a number from 1 to 50000000.
 The line of flat is: flat CAUSE PC STEPS A0, with PC and A0 in hexadecimal. CAUSE is ebreak,
 ecall, illegal, load, store, fetch or bound.
-Status: 0 ebreak or end, 1 another cause or a halt, 2 usage, 3 the script is refused,
+Status: 0 ebreak or end, 1 another cause, a halt or a refused image, 2 usage, 3 the script is refused,
 4 a file can't be read, 5 the output fails, 6 no memory, 7 a file is too long, 8 a text isn't assembled.
 ";
 
@@ -80,6 +83,8 @@ fn obey<F: Files, O: Sink>(
         Command::Version => version(files, out),
         Command::Flat { name, bound } => flat(alloc, name, bound, files, out),
         Command::Build { name } => build(alloc, name, files, out),
+        Command::Image { name } => image(alloc, name, files, out),
+        Command::Listing { name } => list(alloc, name, files, out),
         Command::Run { script } => run(alloc, script, files, out),
     }
 }

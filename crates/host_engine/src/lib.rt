@@ -5,6 +5,7 @@ mod assembly;
 mod build;
 mod code;
 mod command;
+mod dump;
 mod execution;
 mod flat;
 mod flat_line;
@@ -26,8 +27,3 @@ pub use inputs::Inputs;
 pub use message::explain;
 pub use script_run::{Outcome, run_script};
 pub use status::Status;
-
-#[cfg(test)]
-mod run_tests;
-#[cfg(test)]
-mod tests;

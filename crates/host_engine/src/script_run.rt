@@ -1,25 +1,40 @@
 //! The run of a script over the files of its images.
-ghost use Rattle.std.specs.Prelude.{◌≡◌, ◌<◌, IfOk, OnErr, OnSome, Err, Some, length, map, true};
+ghost use Rattle.std.specs.Prelude.{◌≡◌, ◌<◌, ◌∷◌, [], IfOk, OnErr, OnOk, Err, Some, length, map, true, replicate};
 ghost use Rattle.record_text.specs.declared.line.Line.TheVariants as lines;
+ghost use Rattle.memory_map.specs.Map.{map_of};
+ghost use Rattle.page_alloc.specs.Layout.{IsRam};
+ghost use Rattle.firmware_core.specs.declared.happened.Happened.TheVariants as happens;
+ghost use Rattle.firmware_core.specs.Jobs.{job_of};
 ghost use Rattle.host_script.specs.Script.{is_ram_base};
 ghost use Rattle.host_script.specs.Forms.{IsScript, IsStep};
 ghost use Rattle.host_engine.specs.Jobs.{line_bytes, bytes_of, Puts};
-ghost use Rattle.host_engine.specs.ScriptRuns.{place_of, file_at, startable, load_made, last_line, left_behind, is_halt, image_run, start_made, step_made, run_of, at_opening, Made, RunGives};
+ghost use Rattle.host_engine.specs.ScriptRuns.{place_of, file_at, with_handle, handle_at, load_made, last_line, is_halt, job_over, start_made, row_of, map_lines, step_made, run_of, at_opening, Made, RunGives};
 
 use crate::code::ImageFile;
 use crate::inputs::Inputs;
-use crate::job::{JobEnd, Stop, put_line, run_job};
-use firmware_core::{LoadedImage, Machine};
+use crate::job::{Stop, put_line, run_job, say};
+use firmware_core::{Halt, Happened, Job, Machine, Setup, begin, load};
 use host_script::{ImageSpec, Script, Step};
-use record_text::{Cause, Line};
+use memory_map::{Descriptor, MapCursor};
+use page_alloc::PageMap;
+use record_text::Line;
 use std::alloc::{AllocError, Global};
+use std::marker::Model;
 use uh_base::{EfiStatus, Sink, Text};
 
-/// The machine of a run, and the place among the script's images of the one that was loaded last.
+/// The machine of a run, and for each image of the script the handle of the one that was loaded last, 0 where none was.
 #[derive(Drop)]
 pub struct Running {
-    pub machine: Machine,
-    pub place: usize,
+    machine: Machine,
+    handles: Vec<u64>,
+}
+
+impl Model for Running {
+    ghost use Rattle.host_engine.specs.ScriptRuns.{Running};
+
+    ghost Value = { Running };
+
+    ghost view = { λ r. record { machine = r.machine; handles = r.handles.items } };
 }
 
 /// The place of an image among those of a script, by its name.
@@ -101,9 +116,29 @@ fn put_start<O: Sink>(
     )
 }
 
+impl Running {
+    /// Keeps the handle of the image at a place, unless it was refused.
+    fn keep(&mut self, place: usize, handle: u64)
+        requires { place < length self.old.handles }
+        ensures { self.new ≡ record self.old { handles = with_handle self.old.handles place handle } }
+    {
+        if handle != 0 {
+            self.handles[place] = handle;
+        }
+    }
+
+    /// The handle of the image at a place.
+    fn handle_at(&self, place: usize) -> u64
+        requires { place < length self.now.handles }
+        ensures { result ≡ handle_at self.now.handles place }
+    {
+        self.handles[place]
+    }
+}
+
 /// Loads the image at a place of the script and puts the line of the step.
 #[tactic(auto, unfolding(crate::specs::ScriptRuns::load_made))]
-fn load<O: Sink>(
+fn load_image<O: Sink>(
     alloc: Global,
     name: &Text,
     place: usize,
@@ -111,92 +146,83 @@ fn load<O: Sink>(
     running: &mut Running,
     out: &mut O,
 ) -> Result<bool, Stop>
+    requires known { place < length running.old.handles }
     ensures made { IfOk result (λ halted. Made (load_made name.now place file.now.bytes.items running.old) halted running.new) }
     ensures puts { Puts result (bytes_of (load_made name.now place file.now.bytes.items running.old).lines) (O.written out.old) (O.faults out.old) (O.written out.new) (O.faults out.new) }
+    ensures many { length running.new.handles ≡ length running.old.handles }
 {
-    let loaded = match running.machine.load(alloc, file.bytes.as_slice()) {
+    let (status, handle, base, pages) = match load(
+        alloc,
+        &mut running.machine,
+        file.bytes.as_slice(),
+    ) {
         Ok(loaded) => loaded,
         Err(_) => return Err(Stop::Memory),
     };
-    let put = match loaded {
-        Ok(image) => {
-            running.place = place;
-            put_load(alloc, name, 0, image.base, image.pages, out)
-        }
-        Err(status) => put_load(alloc, name, status.0, 0, 0, out),
-    };
-    match put {
+    running.keep(place, handle);
+    match put_load(alloc, name, status.0, base, pages, out) {
         Ok(()) => Ok(false),
         Err(stop) => Err(stop),
     }
 }
 
-/// The image at a place of the script, if it was loaded last, is still there and wasn't started.
-fn startable(running: &Running, place: usize) -> Option<LoadedImage>
-    ensures found { result ≡ startable place running.now }
-    ensures image { OnSome result (running.now.machine.image ≡ result) }
-{
-    if running.place != place {
-        return None;
-    }
-    match running.machine.image() {
-        Some(image) => if image.started { None } else { Some(image) },
-        None => None,
-    }
-}
-
-/// Puts the last line of a job.
-fn put_last<O: Sink>(
-    alloc: Global,
-    name: &Text,
-    end: JobEnd,
-    steps: u64,
-    out: &mut O,
-) -> Result<(), Stop>
-    ensures { Puts result (line_bytes (last_line name.now steps end)) (O.written out.old) (O.faults out.old) (O.written out.new) (O.faults out.new) }
+/// Whether a job ends with a halt.
+fn is_halt(end: &Happened) -> bool
+    ensures { result ≡ is_halt end.now }
 {
     match end {
-        JobEnd::Returned(status) => put_start(alloc, name, status, steps, out),
-        JobEnd::Halted(cause, h0, h1) => put_line(alloc, &Line::Halt { cause, h0, h1 }, out),
+        Happened::Turned => false,
+        Happened::Said(_) => false,
+        Happened::Left { .. } => false,
+        Happened::Halted(_) => true,
     }
 }
 
-/// What a job's end leaves of the machine; true where the run is halted.
-fn leave(machine: &mut Machine, end: JobEnd) -> bool
-    ensures halted { result ≡ is_halt end }
-    ensures machine { machine.new ≡ left_behind machine.old end }
+/// The line of a halt.
+fn halt_line(halt: Halt) -> Line
+    ensures { result ≡ lines.Halt halt.cause halt.pc halt.at }
 {
-    match end {
-        JobEnd::Returned(status) => {
-            machine.end(status);
-            false
-        }
-        JobEnd::Halted(_, _, _) => true,
+    Line::Halt {
+        cause: halt.cause,
+        h0: halt.pc,
+        h1: halt.at,
     }
 }
 
-/// Runs the loaded image, and puts the lines of its job.
-#[tactic(auto, unfolding(crate::specs::ScriptRuns::image_run))]
-fn run_image<O: Sink>(
+/// Puts the last line of a job; true where it is a halt.
+fn put_last<O: Sink>(alloc: Global, name: &Text, end: Happened, out: &mut O) -> Result<bool, Stop>
+    ensures halted { IfOk result (λ halted. halted ≡ is_halt end) }
+    ensures puts { Puts result (line_bytes (last_line name.now end)) (O.written out.old) (O.faults out.old) (O.written out.new) (O.faults out.new) }
+{
+    let halts = is_halt(&end);
+    let put = match end {
+        Happened::Turned => say(alloc, Line::End, out),
+        Happened::Said(line) => say(alloc, line, out),
+        Happened::Left { value, steps } => put_start(alloc, name, value, steps, out),
+        Happened::Halted(halt) => say(alloc, halt_line(halt), out),
+    };
+    match put {
+        Ok(()) => Ok(halts),
+        Err(stop) => Err(stop),
+    }
+}
+
+/// Puts the lines of the job under way; true where the run is halted.
+fn finish_job<O: Sink>(
     alloc: Global,
     name: &Text,
-    bound: u64,
-    image: LoadedImage,
     running: &mut Running,
     out: &mut O,
 ) -> Result<bool, Stop>
-    requires { running.old.machine.image ≡ Some image }
-    ensures made { IfOk result (λ halted. Made (image_run name.now bound running.old image) halted running.new) }
-    ensures puts { Puts result (bytes_of (image_run name.now bound running.old image).lines) (O.written out.old) (O.faults out.old) (O.written out.new) (O.faults out.new) }
+    ensures made { IfOk result (λ halted. Made (job_over name.now running.old.handles (job_of running.old.machine)) halted running.new) }
+    ensures puts { Puts result (bytes_of (job_over name.now running.old.handles (job_of running.old.machine)).lines) (O.written out.old) (O.faults out.old) (O.written out.new) (O.faults out.new) }
+    ensures handles { running.new.handles ≡ running.old.handles }
 {
-    running.machine.begin(image);
-    match run_job(alloc, &mut running.machine, bound, out) {
-        Ok((end, steps)) => match put_last(alloc, name, end, steps, out) {
-            Ok(()) => Ok(leave(&mut running.machine, end)),
-            Err(stop) => Err(stop),
-        },
-        Err(stop) => Err(stop),
-    }
+    let end = match run_job(alloc, &mut running.machine, out) {
+        Ok(end) => end,
+        Err(stop) => return Err(stop),
+    };
+    put_last(alloc, name, end, out)
 }
 
 /// Runs the image at a place of the script, if it can begin, and puts the lines of the step.
@@ -209,16 +235,63 @@ fn start<O: Sink>(
     running: &mut Running,
     out: &mut O,
 ) -> Result<bool, Stop>
+    requires known { place < length running.old.handles }
     ensures made { IfOk result (λ halted. Made (start_made name.now place bound running.old) halted running.new) }
     ensures puts { Puts result (bytes_of (start_made name.now place bound running.old).lines) (O.written out.old) (O.faults out.old) (O.written out.new) (O.faults out.new) }
+    ensures many { length running.new.handles ≡ length running.old.handles }
 {
-    match startable(running, place) {
-        Some(image) => run_image(alloc, name, bound, image, running, out),
-        None => match put_start(alloc, name, EfiStatus::INVALID_PARAMETER.0, 0, out) {
-            Ok(()) => Ok(false),
-            Err(stop) => Err(stop),
-        },
+    let job = Job::Start {
+        handle: running.handle_at(place),
+        bound,
+    };
+    if begin(&mut running.machine, &job) {
+        return finish_job(alloc, name, running, out);
     }
+    match put_start(alloc, name, EfiStatus::INVALID_PARAMETER.0, 0, out) {
+        Ok(()) => Ok(false),
+        Err(stop) => Err(stop),
+    }
+}
+
+/// The line of a descriptor.
+fn row_of(descriptor: Descriptor) -> Line
+    ensures { result ≡ row_of descriptor }
+{
+    Line::MemmapRow {
+        memory_type: descriptor.memory_type,
+        h0: descriptor.start,
+        pages: descriptor.pages,
+        h1: descriptor.attribute,
+    }
+}
+
+/// Puts the lines of the descriptors that are left.
+fn put_rows<O: Sink>(alloc: Global, rows: &mut MapCursor, out: &mut O) -> Result<(), Stop>
+    ensures { Puts result (bytes_of (map row_of rows.old)) (O.written out.old) (O.faults out.old) (O.written out.new) (O.faults out.new) }
+{
+    loop {
+        match rows.next() {
+            Some(descriptor) => match say(alloc, row_of(descriptor), out) {
+                Ok(()) => {}
+                Err(stop) => return Err(stop),
+            },
+            None => return Ok(()),
+        }
+    }
+}
+
+/// Puts the lines of the memory map.
+#[tactic(auto, unfolding(crate::specs::ScriptRuns::map_lines))]
+fn put_map<O: Sink>(alloc: Global, pages: &PageMap, out: &mut O) -> Result<(), Stop>
+    ensures { Puts result (bytes_of (map_lines pages.now)) (O.written out.old) (O.faults out.old) (O.written out.new) (O.faults out.new) }
+{
+    let key = Line::MemmapKey { key: pages.key() };
+    match say(alloc, key, out) {
+        Ok(()) => {}
+        Err(stop) => return Err(stop),
+    }
+    let mut rows = MapCursor::new(pages);
+    put_rows(alloc, &mut rows, out)
 }
 
 /// Makes a step and puts its lines; true where the run is halted.
@@ -232,30 +305,42 @@ fn make_step<O: Sink>(
 ) -> Result<bool, Stop>
     requires known { IsStep script.now.image step.now }
     requires many { length inputs.now.images ≡ length script.now.image }
+    requires handles { length running.old.handles ≡ length script.now.image }
     ensures made { IfOk result (λ halted. Made (step_made script.now inputs.now step.now running.old) halted running.new) }
     ensures puts { Puts result (bytes_of (step_made script.now inputs.now step.now running.old).lines) (O.written out.old) (O.faults out.old) (O.written out.new) (O.faults out.new) }
+    ensures handles { length running.new.handles ≡ length running.old.handles }
 {
     match step {
         Step::Load { image } => {
             let place = place_of(script.image.as_slice(), image.as_str());
             let file = file_at(inputs.images.as_slice(), place);
-            load(alloc, image, place, file, running, out)
+            load_image(alloc, image, place, file, running, out)
         }
         Step::Start { image, bound } => {
             let place = place_of(script.image.as_slice(), image.as_str());
             start(alloc, image, place, *bound, running, out)
         }
+        Step::MemMap => match put_map(alloc, running.machine.pages(), out) {
+            Ok(()) => Ok(false),
+            Err(stop) => Err(stop),
+        },
     }
 }
 
 /// The run at opening.
-fn open(alloc: Global, ram_base: u64) -> Result<Running, AllocError>
-    requires { is_ram_base ram_base ≡ true }
-    ensures { IfOk result (λ running. running ≡ at_opening ram_base) }
+fn open(alloc: Global, ram_base: u64, ram_pages: u32, images: usize) -> Result<Running, AllocError>
+    requires { IsRam ram_base ram_pages }
+    ensures { IfOk result (λ running. running ≡ at_opening ram_base ram_pages images) }
 {
+    let mut handles = Vec::new(alloc);
+    handles.resize(images, 0)?;
+    let setup = Setup {
+        base: ram_base,
+        pages: ram_pages,
+    };
     Ok(Running {
-        machine: Machine::new(alloc, ram_base, 4096)?,
-        place: 0,
+        machine: Machine::new(alloc, setup)?,
+        handles,
     })
 }
 
@@ -271,7 +356,8 @@ fn run_steps<O: Sink>(
     ensures halted { IfOk result (λ halted. halted ≡ (run_of script.now inputs.now).halted) }
     ensures puts { Puts result (bytes_of (run_of script.now inputs.now).lines) (O.written out.old) (O.faults out.old) (O.written out.new) (O.faults out.new) }
 {
-    let mut running = match open(alloc, script.ram_base) {
+    let images = script.image.as_slice().len();
+    let mut running = match open(alloc, script.ram_base, script.ram_pages, images) {
         Ok(running) => running,
         Err(_) => return Err(Stop::Memory),
     };
@@ -302,8 +388,8 @@ pub enum Outcome {
     Memory,
 }
 
-/// Runs the steps of a script over the bytes of its images, from the machine at opening over 4,096 pages of
-/// RAM, and puts each line as it comes, in one put each.
+/// Runs the steps of a script over the bytes of its images, from the machine at opening, and puts each line as it comes, in
+/// one put each.
 pub fn run_script<O: Sink>(alloc: Global, script: &Script, inputs: &Inputs, out: &mut O) -> Outcome
     requires forms { IsScript script.now }
     requires many { length inputs.now.images ≡ length script.now.image }

@@ -1,5 +1,5 @@
 -- What a script that is read keeps: what each part of the reading asked for.
-use Rattle.std.proofs.Common.{◌≡◌, ℕ, ◌+◌, ◌≤◌, Bool, true, false, ◌&&◌, nat_lt, nat_le, List, [], ◌∷◌, ◌++◌, length, codes, Option, Some, None, Result, Ok, Err, refl, sym, ap, ◌∙◌, append_assoc, arith, subst}
+use Rattle.std.proofs.Common.{◌≡◌, ℕ, ◌+◌, ◌*◌, ◌^◌, ◌≤◌, Bool, true, false, ◌&&◌, nat_lt, nat_le, List, [], ◌∷◌, ◌++◌, length, codes, Option, Some, None, Result, Ok, Err, refl, sym, ap, ◌∙◌, append_assoc, arith, subst}
 use Rattle.std.specs.Prelude.{if◌then◌else◌, ◌==◌, unwrap_or, pos, negsuc}
 use Rattle.std.specs.Str.{bytes_eq, is_utf8}
 use Rattle.std.proofs.lemmas.Bool.Decides.{nat_tests}
@@ -9,7 +9,7 @@ use Rattle.toml.specs.Parse.{parse_document}
 use Rattle.uh_base.specs.Names.{is_name}
 use Rattle.host_script.specs.Faults.{◌>>=◌, Place, placed}
 use Rattle.host_script.specs.Fields.{only_keys, text_field, number_field, integer_in, integer_field, tables_field, items_len, counted, needed}
-use Rattle.host_script.specs.Script.{has_image, table_of, Top, not_empty, steps_field, is_ram_base, base_or, ram_base_of, top_of, new_name, text_limit, short_text, one_of, origin_of, image_in, image_at, images_of, known_name, step_image, or_million, bound_of, load_in, start_in, step_by, step_in, step_at, steps_of, with_steps, script_of, of_document, script_in}
+use Rattle.host_script.specs.Script.{has_image, table_of, Top, not_empty, steps_field, is_ram_base, or_4096, ram_pages_of, pages_to_judge, base_or, ram_base_of, top_of, new_name, text_limit, short_text, one_of, origin_of, image_in, image_at, images_of, known_name, step_image, or_million, bound_of, load_in, start_in, memmap_in, step_by, step_in, step_at, steps_of, with_steps, script_of, of_document, script_in}
 use Rattle.host_script.specs.Plain.{Plain}
 use Rattle.host_script.specs.Forms.{IsOrigin, AreImages, IsStep, AreSteps, IsScript, ScriptsKeepForms}
 use Rattle.host_script.specs.declared.fault.ScriptKind.{ScriptKind}
@@ -18,7 +18,7 @@ use Rattle.host_script.specs.declared.script.Origin.{Origin}
 use Rattle.host_script.specs.declared.script.Origin.TheVariants.{File, Text}
 use Rattle.host_script.specs.declared.script.ImageSpec.{ImageSpec}
 use Rattle.host_script.specs.declared.script.Step.{Step}
-use Rattle.host_script.specs.declared.script.Step.TheVariants.{Load, Start}
+use Rattle.host_script.specs.declared.script.Step.TheVariants.{Load, Start, MemMap}
 
 -- ---- a chain that ends well has no fault on its way
 
@@ -167,31 +167,37 @@ unfolding step_image
 image_known images table name h =
     let p = went (needed (text_field (codes "image") table)) (known_name images) name h in known_names images p.x name p.then_
 
-abbrev InRange : Option ℕ → Type 0
-InRange bound = (1 ≤ unwrap_or bound 1000000) × (unwrap_or bound 1000000 ≤ 50000000)
+-- a number that is given lies between two
+abbrev InRange : ℕ → ℕ → Option ℕ → Type 0
+InRange low high None = Unit {0}
+InRange low high (Some n) = (low ≤ n) × (n ≤ high)
 
-in_range : (n : ℕ) (bound : Option ℕ) → (if nat_le 1 n && nat_le n 50000000 then Ok (Some n) else Err kinds.Value) ≡ Ok bound → InRange bound
-in_range n bound h =
-    let p = checked (nat_le 1 n && nat_le n 50000000) (Some n) bound kinds.Value h in
-    let same : Some n ≡ bound = p.1 in
-    let test : (nat_le 1 n && nat_le n 50000000) ≡ true = p.0 in
-    let low : 1 ≤ n = grind (arith, nat_tests, test) in
-    let high : n ≤ 50000000 = grind (arith, nat_tests, test) in
-    subst InRange same (low, high)
+in_range : (low high n : ℕ) (given : Option ℕ) → (if nat_le low n && nat_le n high then Ok (Some n) else Err kinds.Value) ≡ Ok given → InRange low high given
+in_range low high n given h =
+    let p = checked (nat_le low n && nat_le n high) (Some n) given kinds.Value h in
+    let same : Some n ≡ given = p.1 in
+    let test : (nat_le low n && nat_le n high) ≡ true = p.0 in
+    let above : low ≤ n = grind (arith, nat_tests, test) in
+    let below : n ≤ high = grind (arith, nat_tests, test) in
+    subst (InRange low high) same (above, below)
 
-integer_range : (content : Option Data) (bound : Option ℕ) → integer_in 1 50000000 content ≡ Ok bound → InRange bound
-integer_range None bound h = let same : None ≡ bound = cc in subst InRange same (omega arith, omega arith)
-integer_range (Some (integer (pos n))) bound h = in_range n bound h
-integer_range (Some (integer (negsuc n))) bound h = cc
-integer_range (Some other) bound h = cc
+integer_range : (low high : ℕ) (content : Option Data) (given : Option ℕ) → integer_in low high content ≡ Ok given → InRange low high given
+integer_range low high None given h = let same : None ≡ given = cc in subst (InRange low high) same tt
+integer_range low high (Some (integer (pos n))) given h = in_range low high n given h
+integer_range low high (Some (integer (negsuc n))) given h = cc
+integer_range low high (Some other) given h = cc
+
+given_or : (low high other : ℕ) (given : Option ℕ) → InRange low high given → low ≤ other → other ≤ high → (low ≤ unwrap_or given other) × (unwrap_or given other ≤ high)
+given_or low high other None h above below = (above, below)
+given_or low high other (Some n) h above below = h
 
 bound_read : (table : Members) (bound : ℕ) → bound_of table ≡ Ok bound → (1 ≤ bound) × (bound ≤ 50000000)
 unfolding bound_of integer_field
 bound_read table bound h =
     let p = went (integer_in 1 50000000 (get_member (codes "bound") table)) or_million bound h in
     let same : unwrap_or p.x 1000000 ≡ bound = cc in
-    let range = integer_range (get_member (codes "bound") table) p.x p.first in
-    rw (← same) range
+    let range = integer_range 1 50000000 (get_member (codes "bound") table) p.x p.first in
+    rw (← same) (given_or 1 50000000 1000000 p.x range (omega arith) (omega arith))
 
 abbrev with_image : List ℕ → Result Step ScriptKind
 with_image image = Ok (Load image)
@@ -217,14 +223,23 @@ start_read images table step h =
     let range = bound_read table bound.x bound.first in
     subst (IsStep images) same (image_known images table image.x image.first, range.0, range.1)
 
+memmap_read : (images : List ImageSpec) (table : Members) (step : Step) → memmap_in table ≡ Ok step → IsStep images step
+unfolding memmap_in
+memmap_read images table step h =
+    let keys = went (only_keys (codes "do" ∷ []) table) (λ _. Ok MemMap) step h in
+    let same : MemMap ≡ step = cc in
+    subst (IsStep images) same tt
+
 by_read : (word : List ℕ) (images : List ImageSpec) (table : Members) (step : Step) → step_by word images table ≡ Ok step → IsStep images step
 unfolding step_by
-by_read word images table step h = by (bytes_eq word (codes "load")) (bytes_eq word (codes "start")) h
+by_read word images table step h = by (bytes_eq word (codes "load")) (bytes_eq word (codes "start")) (bytes_eq word (codes "memmap")) h
   where
-    by : (loads starts : Bool) → (if loads then load_in images table else (if starts then start_in images table else Err kinds.Value)) ≡ Ok step → IsStep images step
-    by true starts h = load_read images table step h
-    by false true h = start_read images table step h
-    by false false h = cc
+    by : (loads starts maps : Bool)
+        → (if loads then load_in images table else (if starts then start_in images table else (if maps then memmap_in table else Err kinds.Value))) ≡ Ok step → IsStep images step
+    by true starts maps h = load_read images table step h
+    by false true maps h = start_read images table step h
+    by false false true h = memmap_read images table step h
+    by false false false h = cc
 
 step_read_at : (images : List ImageSpec) (content : Data) (step : Step) → step_at images content ≡ Ok step → IsStep images step
 unfolding step_at step_in
@@ -256,7 +271,9 @@ steps_read images before (item content items) steps h =
 -- ---- the whole
 
 record ReadsTop (top : Top) : Type 0 where
-  ram_base : is_ram_base top.ram_base ≡ true
+  ram_base : is_ram_base top.ram_pages top.ram_base ≡ true
+  some_ram : 256 ≤ top.ram_pages
+  few_ram : top.ram_pages ≤ 4096
   few_images : items_len top.images ≤ 16
   some_steps : 1 ≤ items_len top.steps
   few_steps : items_len top.steps ≤ 4096
@@ -271,52 +288,77 @@ steps_counted table steps h =
     let same : all.x ≡ steps = few.0 in
     (rw (← same) one.1, few.1)
 
-base_read : (given : Option ℕ) (base : ℕ) → base_or given ≡ Ok base → is_ram_base base ≡ true
-base_read None base h = let same : 0x40000000 ≡ base = cc in subst (λ b. is_ram_base b ≡ true) same refl
-base_read (Some given) base h = by (is_ram_base given) refl h
+ram_pages_read : (table : Members) (pages : ℕ) → ram_pages_of table ≡ Ok pages → (256 ≤ pages) × (pages ≤ 4096)
+unfolding ram_pages_of integer_field
+ram_pages_read table pages h =
+    let p = went (integer_in 256 4096 (get_member (codes "ram_pages") table)) or_4096 pages h in
+    let same : unwrap_or p.x 4096 ≡ pages = cc in
+    let range = integer_range 256 4096 (get_member (codes "ram_pages") table) p.x p.first in
+    rw (← same) (given_or 256 4096 4096 p.x range (omega arith) (omega arith))
+
+-- RAM of at most 4,096 pages may begin where it begins if no address is given.
+usual_base : (pages : ℕ) → pages ≤ 4096 → is_ram_base pages 0x40000000 ≡ true
+usual_base pages few = let fits : 0x40000000 + 4096 * pages ≤ 2 ^ 46 = omega (arith, few) in grind (arith, nat_tests, fits)
+
+base_read : (pages : ℕ) (given : Option ℕ) (base : ℕ) → pages ≤ 4096 → base_or pages given ≡ Ok base → is_ram_base pages base ≡ true
+base_read pages None base few h = let same : 0x40000000 ≡ base = cc in subst (λ b. is_ram_base pages b ≡ true) same (usual_base pages few)
+base_read pages (Some given) base few h = by (is_ram_base pages given) refl h
   where
-    by : (fits : Bool) → is_ram_base given ≡ fits → (if fits then Ok given else Err kinds.Value) ≡ Ok base → is_ram_base base ≡ true
-    by true fits h = let same : given ≡ base = cc in subst (λ b. is_ram_base b ≡ true) same fits
+    by : (fits : Bool) → is_ram_base pages given ≡ fits → (if fits then Ok given else Err kinds.Value) ≡ Ok base → is_ram_base pages base ≡ true
+    by true fits h = let same : given ≡ base = cc in subst (λ b. is_ram_base pages b ≡ true) same fits
     by false fits h = cc
 
-ram_base_read : (table : Members) (base : ℕ) → ram_base_of table ≡ Ok base → is_ram_base base ≡ true
+ram_base_read : (table : Members) (pages base : ℕ) → ram_pages_of table ≡ Ok pages → pages ≤ 4096 → ram_base_of table ≡ Ok base → is_ram_base pages base ≡ true
 unfolding ram_base_of
-ram_base_read table base h = let p = went (number_field (codes "ram_base") table) base_or base h in base_read p.x base p.then_
+ram_base_read table pages base same few h =
+    let p = went (number_field (codes "ram_base") table) (base_or (pages_to_judge (ram_pages_of table))) base h in
+    let judged : pages_to_judge (ram_pages_of table) ≡ pages = rw same refl in
+    base_read pages p.x base few (subst (λ n. base_or n p.x ≡ Ok base) judged p.then_)
 
-abbrev with_lists : ℕ → Items → Items → Result Top ScriptKind
-with_lists ram_base images steps = Ok (record { ram_base = ram_base; images = images; steps = steps })
+abbrev with_lists : ℕ → ℕ → Items → Items → Result Top ScriptKind
+with_lists ram_base ram_pages images steps = Ok (record { ram_base = ram_base; ram_pages = ram_pages; images = images; steps = steps })
 
 top_read : (table : Members) (top : Top) → top_of table ≡ Ok top → ReadsTop top
 unfolding top_of
 top_read table top h =
     let listed : Result Items ScriptKind = tables_field (codes "image") table >>= counted 16 in
-    let keys = went (only_keys (codes "ram_base" ∷ codes "image" ∷ codes "step" ∷ []) table) (λ _. ram_base_of table >>= λ base. listed >>= λ images. steps_field table >>= with_lists base images) top h in
-    let base = went (ram_base_of table) (λ base. listed >>= λ images. steps_field table >>= with_lists base images) top keys.then_ in
-    let images = went listed (λ images. steps_field table >>= with_lists base.x images) top base.then_ in
-    let steps = went (steps_field table) (with_lists base.x images.x) top images.then_ in
+    let keys = went (only_keys (codes "ram_base" ∷ codes "ram_pages" ∷ codes "image" ∷ codes "step" ∷ []) table)
+    (λ _. ram_base_of table >>= λ base. ram_pages_of table >>= λ pages. listed >>= λ images. steps_field table >>= with_lists base pages images) top h in
+    let base = went (ram_base_of table) (λ base. ram_pages_of table >>= λ pages. listed >>= λ images. steps_field table >>= with_lists base pages images) top keys.then_ in
+    let pages = went (ram_pages_of table) (λ pages. listed >>= λ images. steps_field table >>= with_lists base.x pages images) top base.then_ in
+    let images = went listed (λ images. steps_field table >>= with_lists base.x pages.x images) top pages.then_ in
+    let steps = went (steps_field table) (with_lists base.x pages.x images.x) top images.then_ in
     let all = went (tables_field (codes "image") table) (counted 16) images.x images.first in
     let few = few_kept 16 all.x images.x all.then_ in
     let count = steps_counted table steps.x steps.first in
-    let made : Top = record { ram_base = base.x; images = images.x; steps = steps.x } in
+    let ram = ram_pages_read table pages.x pages.first in
+    let made : Top = record { ram_base = base.x; ram_pages = pages.x; images = images.x; steps = steps.x } in
     let same : made ≡ top = cc in
-    subst ReadsTop same (record { ram_base = ram_base_read table base.x base.first; few_images = few.1; some_steps = count.0; few_steps = count.1 })
+    subst ReadsTop same (record {
+      ram_base = ram_base_read table pages.x base.x pages.first ram.1 base.first;
+      some_ram = ram.0;
+      few_ram = ram.1;
+      few_images = few.1;
+      some_steps = count.0;
+      few_steps = count.1;
+    })
 
-record WithSteps (ram_base : ℕ) (images : List ImageSpec) (r : Result (List Step) Place) (script : Plain) : Type 0 where
+record WithSteps (top : Top) (images : List ImageSpec) (r : Result (List Step) Place) (script : Plain) : Type 0 where
   steps : List Step
   first : r ≡ Ok steps
-  same : record { ram_base = ram_base; image = images; step = steps } ≡ script
+  same : record { ram_base = top.ram_base; ram_pages = top.ram_pages; image = images; step = steps } ≡ script
 
-with_all : (ram_base : ℕ) (images : List ImageSpec) (r : Result (List Step) Place) (script : Plain) → with_steps ram_base images r ≡ Ok script → WithSteps ram_base images r script
-with_all ram_base images (Ok steps) script h = record { steps = steps; first = refl; same = cc }
-with_all ram_base images (Err e) script h = cc
+with_all : (top : Top) (images : List ImageSpec) (r : Result (List Step) Place) (script : Plain) → with_steps top images r ≡ Ok script → WithSteps top images r script
+with_all top images (Ok steps) script h = record { steps = steps; first = refl; same = cc }
+with_all top images (Err e) script h = cc
 
 document_read : (table : Members) (script : Plain) → script_of table ≡ Ok script → IsScript script
 unfolding script_of
 document_read table script h =
-    let rest : Top → Result Plain Place = λ top. placed 0 (images_of [] top.images) (λ images. with_steps top.ram_base images (steps_of images [] top.steps)) in
+    let rest : Top → Result Plain Place = λ top. placed 0 (images_of [] top.images) (λ images. with_steps top images (steps_of images [] top.steps)) in
     let top = went_on 0 (top_of table) rest script h in
-    let images = went_on 0 (images_of [] top.x.images) (λ images. with_steps top.x.ram_base images (steps_of images [] top.x.steps)) script top.then_ in
-    let all = with_all top.x.ram_base images.x (steps_of images.x [] top.x.steps) script images.then_ in
+    let images = went_on 0 (images_of [] top.x.images) (λ images. with_steps top.x images (steps_of images [] top.x.steps)) script top.then_ in
+    let all = with_all top.x images.x (steps_of images.x [] top.x.steps) script images.then_ in
     let counts = top_read table top.x top.first in
     let read = images_read [] top.x.images images.x images.first in
     let ran = steps_read images.x [] top.x.steps all.steps all.first in
@@ -324,6 +366,8 @@ document_read table script h =
     let same_steps : all.steps ≡ ran.added = ran.same in
     subst IsScript all.same (record {
       ram_base = counts.ram_base;
+      some_ram = counts.some_ram;
+      few_ram = counts.few_ram;
       few_images = omega (arith, ap length same_images, read.long, counts.few_images);
       images = rw same_images read.keep;
       some_steps = omega (arith, ap length same_steps, ran.long, counts.some_steps);

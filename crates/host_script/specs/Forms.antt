@@ -5,7 +5,7 @@ use Rattle.host_script.specs.declared.script.ImageSpec.{ImageSpec}
 use Rattle.host_script.specs.declared.script.Origin.{Origin}
 use Rattle.host_script.specs.declared.script.Origin.TheVariants.{File, Text}
 use Rattle.host_script.specs.declared.script.Step.{Step}
-use Rattle.host_script.specs.declared.script.Step.TheVariants.{Load, Start}
+use Rattle.host_script.specs.declared.script.Step.TheVariants.{Load, Start, MemMap}
 use Rattle.host_script.specs.Plain.{Plain}
 use Rattle.host_script.specs.Script.{has_image, is_ram_base, text_limit, script_in}
 
@@ -19,10 +19,11 @@ abbrev pub AreImages : List ImageSpec → List ImageSpec → Type 0
 AreImages before [] = Unit {0}
 AreImages before (image ∷ images) = (is_name image.name ≡ true) × (has_image before image.name ≡ false) × IsOrigin image.origin × AreImages (before ++ image ∷ []) images
 
--- A step names an image, and may run 1 to 50,000,000 steps.
+-- A load and a start name an image, and a start may run 1 to 50,000,000 steps.
 abbrev pub IsStep : List ImageSpec → Step → Type 0
 IsStep images (Load image) = has_image images image ≡ true
 IsStep images (Start image bound) = (has_image images image ≡ true) × (1 ≤ bound) × (bound ≤ 50000000)
+IsStep images MemMap = Unit {0}
 
 abbrev pub AreSteps : List ImageSpec → List Step → Type 0
 AreSteps images [] = Unit {0}
@@ -30,7 +31,9 @@ AreSteps images (step ∷ steps) = IsStep images step × AreSteps images steps
 
 -- a script that there is
 pub record IsScript (script : Plain) : Type 0 where
-  pub ram_base : is_ram_base script.ram_base ≡ true
+  pub ram_base : is_ram_base script.ram_pages script.ram_base ≡ true
+  pub some_ram : 256 ≤ script.ram_pages
+  pub few_ram : script.ram_pages ≤ 4096
   pub few_images : length script.image ≤ 16
   pub images : AreImages [] script.image
   pub some_steps : 1 ≤ length script.step

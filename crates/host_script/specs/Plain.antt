@@ -5,5 +5,6 @@ use Rattle.host_script.specs.declared.script.Step.{Step}
 
 pub record Plain : Type 0 where
   pub ram_base : ℕ
+  pub ram_pages : ℕ
   pub image : List ImageSpec
   pub step : List Step

@@ -14,7 +14,7 @@ use Rattle.host_script.specs.declared.script.Origin.{Origin}
 use Rattle.host_script.specs.declared.script.Origin.TheVariants.{File, Text}
 use Rattle.host_script.specs.declared.script.ImageSpec.{ImageSpec}
 use Rattle.host_script.specs.declared.script.Step.{Step}
-use Rattle.host_script.specs.declared.script.Step.TheVariants.{Load, Start}
+use Rattle.host_script.specs.declared.script.Step.TheVariants.{Load, Start, MemMap}
 
 -- an image has the name
 abbrev pub has_image : List ImageSpec → List ℕ → Bool
@@ -29,6 +29,7 @@ table_of (Some members) = Ok members
 
 pub record Top : Type 0 where
   pub ram_base : ℕ
+  pub ram_pages : ℕ
   pub images : Items
   pub steps : Items
 
@@ -38,24 +39,37 @@ not_empty items = if items_len items == 0 then Err kinds.Missing else Ok items
 unfoldable pub steps_field : Members → Result Items ScriptKind
 steps_field top = (tables_field (codes "step") top >>= not_empty) >>= counted 4096
 
--- the address of the first byte of RAM, of which there are 4,096 pages
-abbrev pub is_ram_base : ℕ → Bool
-is_ram_base base = base % 4096 == 0 && nat_le 0x100000 base && nat_le (base + 4096 * 4096) (2 ^ 46)
+-- how many pages RAM has
+abbrev pub or_4096 : Option ℕ → Result ℕ ScriptKind
+or_4096 pages = Ok (unwrap_or pages 4096)
 
-abbrev pub base_or : Option ℕ → Result ℕ ScriptKind
-base_or None = Ok 0x40000000
-base_or (Some base) = if is_ram_base base then Ok base else Err kinds.Value
+unfoldable pub ram_pages_of : Members → Result ℕ ScriptKind
+ram_pages_of top = integer_field (codes "ram_pages") 256 4096 top >>= or_4096
+
+-- the address of the first byte of RAM of so many pages
+abbrev pub is_ram_base : ℕ → ℕ → Bool
+is_ram_base pages base = base % 4096 == 0 && nat_le 0x100000 base && nat_le (base + 4096 * pages) (2 ^ 46)
+
+abbrev pub base_or : ℕ → Option ℕ → Result ℕ ScriptKind
+base_or pages None = Ok 0x40000000
+base_or pages (Some base) = if is_ram_base pages base then Ok base else Err kinds.Value
+
+-- A number of pages that is refused is a fault of its own: the address is judged without it.
+abbrev pub pages_to_judge : Result ℕ ScriptKind → ℕ
+pages_to_judge (Ok pages) = pages
+pages_to_judge (Err kind) = 0
 
 unfoldable pub ram_base_of : Members → Result ℕ ScriptKind
-ram_base_of top = number_field (codes "ram_base") top >>= base_or
+ram_base_of top = number_field (codes "ram_base") top >>= base_or (pages_to_judge (ram_pages_of top))
 
 unfoldable pub top_of : Members → Result Top ScriptKind
 top_of top = do
-  _ ← only_keys (codes "ram_base" ∷ codes "image" ∷ codes "step" ∷ []) top
+  _ ← only_keys (codes "ram_base" ∷ codes "ram_pages" ∷ codes "image" ∷ codes "step" ∷ []) top
   ram_base ← ram_base_of top
+  ram_pages ← ram_pages_of top
   images ← tables_field (codes "image") top >>= counted 16
   steps ← steps_field top
-  Ok (record { ram_base = ram_base; images = images; steps = steps })
+  Ok (record { ram_base = ram_base; ram_pages = ram_pages; images = images; steps = steps })
 
 -- ---- images, each with those before it
 
@@ -125,10 +139,16 @@ start_in images step = do
   bound ← bound_of step
   Ok (Start image bound)
 
+unfoldable pub memmap_in : Members → Result Step ScriptKind
+memmap_in step = do
+  _ ← only_keys (codes "do" ∷ []) step
+  Ok MemMap
+
 unfoldable pub step_by : List ℕ → List ImageSpec → Members → Result Step ScriptKind
 step_by word images step =
     if bytes_eq word (codes "load") then load_in images step
-    else (if bytes_eq word (codes "start") then start_in images step else Err kinds.Value)
+    else (if bytes_eq word (codes "start") then start_in images step
+    else (if bytes_eq word (codes "memmap") then memmap_in step else Err kinds.Value))
 
 unfoldable pub step_in : List ImageSpec → Members → Result Step ScriptKind
 step_in images step = needed (text_field (codes "do") step) >>= λ word. step_by word images step
@@ -143,13 +163,13 @@ steps_of images before (item content items) = placed (length before + 1) (step_a
 
 -- ---- the whole
 
-abbrev pub with_steps : ℕ → List ImageSpec → Result (List Step) Place → Result Plain Place
-with_steps ram_base images (Ok steps) = Ok (record { ram_base = ram_base; image = images; step = steps })
-with_steps ram_base images (Err place) = Err place
+abbrev pub with_steps : Top → List ImageSpec → Result (List Step) Place → Result Plain Place
+with_steps top images (Ok steps) = Ok (record { ram_base = top.ram_base; ram_pages = top.ram_pages; image = images; step = steps })
+with_steps top images (Err place) = Err place
 
 -- the top table, the images and the steps are step 0, step 0, and each its own
 unfoldable pub script_of : Members → Result Plain Place
-script_of document = placed 0 (top_of document) (λ top. placed 0 (images_of [] top.images) (λ images. with_steps top.ram_base images (steps_of images [] top.steps)))
+script_of document = placed 0 (top_of document) (λ top. placed 0 (images_of [] top.images) (λ images. with_steps top images (steps_of images [] top.steps)))
 
 abbrev pub of_document : Option Members → Result Plain Place
 of_document None = Err (0, kinds.Text)

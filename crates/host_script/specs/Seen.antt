@@ -6,5 +6,5 @@ use Rattle.host_script.specs.declared.fault.ScriptKind.{ScriptKind}
 use Rattle.host_script.specs.declared.reading.Top.{Top as KeptTop}
 
 abbrev pub top_seen : Result KeptTop ScriptKind → Result Top ScriptKind
-top_seen (Ok top) = Ok (record { ram_base = top.ram_base; images = items_view top.images.now; steps = items_view top.steps.now })
+top_seen (Ok top) = Ok (record { ram_base = top.ram_base; ram_pages = top.ram_pages; images = items_view top.images.now; steps = items_view top.steps.now })
 top_seen (Err e) = Err e

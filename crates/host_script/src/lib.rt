@@ -7,8 +7,6 @@ mod images;
 mod reading;
 mod script;
 mod steps;
-#[cfg(test)]
-mod tests;
 
 pub use fault::{ScriptFault, ScriptKind};
 pub use reading::{read_script, scripts_keep_forms};

@@ -3,7 +3,7 @@ ghost use Rattle.std.specs.Prelude.{◌≡◌, ◌≤◌, length, IfOk};
 ghost use Rattle.toml.specs.View.{table_view, items_view};
 ghost use Rattle.host_script.specs.Faults.{Reads};
 ghost use Rattle.host_script.specs.Fields.{seen_items};
-ghost use Rattle.host_script.specs.Script.{not_empty, steps_field, is_ram_base, ram_base_of, top_of, script_of, script_in};
+ghost use Rattle.host_script.specs.Script.{not_empty, steps_field, is_ram_base, ram_pages_of, pages_to_judge, ram_base_of, top_of, script_of, script_in};
 ghost use Rattle.host_script.specs.Forms.{ScriptsKeepForms};
 ghost use Rattle.host_script.specs.Seen.{top_seen};
 
@@ -19,6 +19,7 @@ use toml::{Table, Value};
 #[derive(Drop)]
 struct Top<'a> {
     ram_base: u64,
+    ram_pages: u32,
     images: &'a [Value],
     steps: &'a [Value],
 }
@@ -43,11 +44,35 @@ fn steps_field(top: &Table) -> Result<&[Value], ScriptKind>
     fields::counted(not_empty(fields::tables_field(top, "step")?)?, 4096)
 }
 
-/// Whether RAM may begin at an address.
-fn is_ram_base(base: u64) -> bool
-    ensures { result ≡ is_ram_base base }
+/// How many pages RAM has: 4,096 where the key isn't there.
+#[tactic(auto, unfolding(crate::specs::Script::ram_pages_of))]
+fn ram_pages_of(top: &Table) -> Result<u32, ScriptKind>
+    ensures { result ≡ ram_pages_of (table_view top.now) }
 {
-    base % 4096 == 0 && base >= 0x10_0000 && base <= (1 << 46) - 4096 * 4096
+    match fields::integer_field(top, "ram_pages", 256, 4096)? {
+        Some(pages) => Ok(pages),
+        None => Ok(4096),
+    }
+}
+
+/// With how many pages the address of RAM is judged: with none where their number is refused.
+fn pages_to_judge(pages: Result<u32, ScriptKind>) -> u32
+    ensures { result ≡ pages_to_judge pages }
+{
+    match pages {
+        Ok(pages) => pages,
+        Err(_) => 0,
+    }
+}
+
+/// Whether RAM of so many pages may begin at an address.
+fn is_ram_base(pages: u32, base: u64) -> bool
+    ensures { result ≡ is_ram_base pages base }
+{
+    base % 4096 == 0
+        && base >= 0x10_0000
+        && base <= 1 << 46
+        && 4096 * u64::from(pages) <= (1 << 46) - base
 }
 
 /// Where RAM begins: 0x40000000 where the key isn't there.
@@ -55,10 +80,11 @@ fn is_ram_base(base: u64) -> bool
 fn ram_base_of(top: &Table) -> Result<u64, ScriptKind>
     ensures { result ≡ ram_base_of (table_view top.now) }
 {
+    let pages = pages_to_judge(ram_pages_of(top));
     match fields::number_field(top, "ram_base")? {
         None => Ok(0x4000_0000),
         Some(base) => {
-            if is_ram_base(base) {
+            if is_ram_base(pages, base) {
                 Ok(base)
             } else {
                 Err(ScriptKind::Value)
@@ -72,12 +98,14 @@ fn top_of(top: &Table) -> Result<Top<'_>, ScriptKind>
     ensures seen { top_seen result ≡ top_of (table_view top.now) }
     ensures few { IfOk result (λ top. length top.steps.now ≤ 4096) }
 {
-    fields::only_keys(top, &["ram_base", "image", "step"])?;
+    fields::only_keys(top, &["ram_base", "ram_pages", "image", "step"])?;
     let ram_base = ram_base_of(top)?;
+    let ram_pages = ram_pages_of(top)?;
     let images = fields::counted(fields::tables_field(top, "image")?, 16)?;
     let steps = steps_field(top)?;
     Ok(Top {
         ram_base,
+        ram_pages,
         images,
         steps,
     })
@@ -98,6 +126,7 @@ fn script_of(alloc: Global, document: &Table) -> Result<Script, ScriptFault>
     match steps_of(alloc, image.as_slice(), top.steps) {
         Ok(step) => Ok(Script {
             ram_base: top.ram_base,
+            ram_pages: top.ram_pages,
             image,
             step,
         }),

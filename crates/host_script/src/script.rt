@@ -26,6 +26,8 @@ pub enum Step {
     Load { image: Text },
     /// Runs the image that was loaded last under the name, for at most `bound` steps, 1 to 50,000,000.
     Start { image: Text, bound: u64 },
+    /// Prints the memory map.
+    MemMap,
 }
 
 /// A script: at most 16 images, and 1 to 4,096 steps.
@@ -33,6 +35,8 @@ pub enum Step {
 pub struct Script {
     /// The address of the first byte of RAM: a multiple of 4,096 from 0x100000 on, with which RAM ends at most at 2^46.
     pub ram_base: u64,
+    /// How many pages of 4,096 bytes RAM has: 256 to 4,096.
+    pub ram_pages: u32,
     pub image: Vec<ImageSpec>,
     pub step: Vec<Step>,
 }
@@ -42,5 +46,5 @@ impl Model for Script {
 
     ghost Value = { Plain };
 
-    ghost view = { λ s. record { ram_base = s.ram_base; image = s.image.items; step = s.step.items } };
+    ghost view = { λ s. record { ram_base = s.ram_base; ram_pages = s.ram_pages; image = s.image.items; step = s.step.items } };
 }

@@ -3,7 +3,7 @@ ghost use Rattle.std.specs.Prelude.{◌≡◌, ◌≤◌, ◌<◌, ◌^◌, [], 
 ghost use Rattle.toml.specs.View.{view, table_view, items_view};
 ghost use Rattle.host_script.specs.Faults.{Gives, Reads, fault_at};
 ghost use Rattle.host_script.specs.Fields.{seen_one};
-ghost use Rattle.host_script.specs.Script.{known_name, step_image, bound_of, load_in, start_in, step_by, step_in, step_at, steps_of};
+ghost use Rattle.host_script.specs.Script.{known_name, step_image, bound_of, load_in, start_in, memmap_in, step_by, step_in, step_at, steps_of};
 
 use crate::fault::{Fault, ScriptFault, ScriptKind};
 use crate::fields;
@@ -69,6 +69,14 @@ fn start_in(alloc: Global, images: &[ImageSpec], step: &Table) -> Result<Step, F
     })
 }
 
+#[tactic(auto, unfolding(crate::specs::Script::memmap_in))]
+fn memmap_in(step: &Table) -> Result<Step, ScriptKind>
+    ensures { result ≡ memmap_in (table_view step.now) }
+{
+    fields::only_keys(step, &["do"])?;
+    Ok(Step::MemMap)
+}
+
 /// The step of a word.
 #[tactic(auto, unfolding(crate::specs::Script::step_by))]
 fn step_by(alloc: Global, word: &str, images: &[ImageSpec], step: &Table) -> Result<Step, Fault>
@@ -79,6 +87,9 @@ fn step_by(alloc: Global, word: &str, images: &[ImageSpec], step: &Table) -> Res
     }
     if word == "start" {
         return start_in(alloc, images, step);
+    }
+    if word == "memmap" {
+        return Ok(memmap_in(step)?);
     }
     Err(Fault::Kind(ScriptKind::Value))
 }

@@ -1,46 +1,40 @@
-use Rattle.std.proofs.Common.{◌≡◌, zero, suc, ◌-◌, ◌+◌, arith, rules}
-use Rattle.host_engine.specs.Jobs.{job_of}
-use Rattle.host_engine.proofs.JobLemmas.{begins, goes_on, ends_here, put_here, stops_here, runs_out, put_by_then}
-use Rattle.host_engine.proofs.PutLemmas.{went, stopped}
+use Rattle.std.proofs.Common.{arith, refl}
+use Rattle.firmware_core.specs.declared.happened.Happened.TheVariants.{Left, Halted}
+use Rattle.firmware_core.specs.Jobs.{job_of}
+use Rattle.host_engine.proofs.JobLemmas.{begins, goes_on, ends_here, put_here, stops_here, part_by_then}
+use Rattle.host_engine.proofs.PutLemmas.{went, stopped, memory_stop}
 use Rattle.host_engine.proofs.job.run_job.Goals as goal
 
-pub loop-turn-init : goal.loop-turn-init
-loop-turn-init g c =
-    let e : c.args.bound - 0 ≡ c.args.bound = omega arith in
-    record { so_far = rw e (begins (job_of c.args.bound c.args.machine.now) (g.O.Sink.written c.args.out.now)); never = omega arith }
+pub loop-line-init : goal.loop-line-init
+loop-line-init g c = record { so_far = begins (job_of c.args.machine.now) (g.O.Sink.written c.args.out.now); never = omega arith }
 
-pub loop-turn-preserved : goal.loop-turn-preserved
-loop-turn-preserved g c =
-    let k : c.args.bound - c.loop-turn.turn ≡ suc (c.args.bound - (c.loop-turn.turn + 1)) = omega arith in
-    record {
-      so_far = goes_on _ (c.args.bound - c.loop-turn.turn) (c.args.bound - (c.loop-turn.turn + 1)) _ c.loop-turn.machine _ _ (g.O.Sink.written c.make_turn.new.out) k c.loop-turn.invariant.so_far c.make_turn.new.machine (search (rules, c.in-Ok-None.ensures.end, c.in-Ok-None.field-0-is)) c.in-Ok-None.ensures.state c.in-Ok-None.ensures.puts.whole;
-      never = omega (arith, c.in-Ok-None.ensures.puts.never_falls);
-    }
+pub loop-line-smaller : goal.loop-line-smaller
+loop-line-smaller g c = let says = rw c.in-Ok-Said.field-0-is at c.in-Ok-Said.ensures in says.fewer refl
+
+pub loop-line-preserved : goal.loop-line-preserved
+loop-line-preserved g c = record {
+  so_far = goes_on _ _ _ _ _ c.loop-line.invariant.so_far c.in-Ok-Said.line (rw c.in-Ok-Said.field-0-is at c.in-Ok-Said.ensures) (g.O.Sink.written c.say.new.out) c.in-Ok.ensures.whole;
+  never = omega (arith, c.loop-line.invariant.never, c.say.ensures.never_falls);
+}
+
+pub returns-in-Ok-Left-clause-ended : goal.returns-in-Ok-Left-clause-ended
+returns-in-Ok-Left-clause-ended g c = ends_here _ _ _ _ _ c.loop-line.invariant.so_far (Left c.in-Ok-Left.value c.in-Ok-Left.steps) (rw c.in-Ok-Left.field-0-is at c.in-Ok-Left.ensures).rest
+
+pub returns-in-Ok-Left-clause-puts : goal.returns-in-Ok-Left-clause-puts
+returns-in-Ok-Left-clause-puts g c =
+    went _ _ _ _ _ _ (put_here _ _ _ _ _ c.loop-line.invariant.so_far (Left c.in-Ok-Left.value c.in-Ok-Left.steps) (rw c.in-Ok-Left.field-0-is at c.in-Ok-Left.ensures).rest) c.loop-line.invariant.never
+
+pub returns-in-Ok-Halted-clause-ended : goal.returns-in-Ok-Halted-clause-ended
+returns-in-Ok-Halted-clause-ended g c = ends_here _ _ _ _ _ c.loop-line.invariant.so_far (Halted c.in-Ok-Halted.halt) (rw c.in-Ok-Halted.field-0-is at c.in-Ok-Halted.ensures).rest
+
+pub returns-in-Ok-Halted-clause-puts : goal.returns-in-Ok-Halted-clause-puts
+returns-in-Ok-Halted-clause-puts g c =
+    went _ _ _ _ _ _ (put_here _ _ _ _ _ c.loop-line.invariant.so_far (Halted c.in-Ok-Halted.halt) (rw c.in-Ok-Halted.field-0-is at c.in-Ok-Halted.ensures).rest) c.loop-line.invariant.never
 
 pub returns-in-Err-clause-puts : goal.returns-in-Err-clause-puts
-returns-in-Err-clause-puts g c =
-    let k : c.args.bound - c.loop-turn.turn ≡ suc (c.args.bound - (c.loop-turn.turn + 1)) = omega arith in
-    stopped _ _ c.in-Err.stop _ _ _ _ _ _ _ _ c.loop-turn.invariant.never c.in-Err.ensures.puts
-    (stops_here _ (c.args.bound - c.loop-turn.turn) (c.args.bound - (c.loop-turn.turn + 1)) _ c.loop-turn.machine _ _ (g.O.Sink.written c.make_turn.new.out) k c.loop-turn.invariant.so_far c.in-Err.ensures.puts.part)
+returns-in-Err-clause-puts g c = memory_stop _ _ _ _ _ _ (part_by_then _ _ c.run_machine.new.machine _ _ c.loop-line.invariant.so_far) c.loop-line.invariant.never
 
-pub returns-in-Ok-Some-clause-ended : goal.returns-in-Ok-Some-clause-ended
-returns-in-Ok-Some-clause-ended g c =
-    let k : c.args.bound - c.loop-turn.turn ≡ suc (c.args.bound - (c.loop-turn.turn + 1)) = omega arith in
-    ends_here _ (c.args.bound - c.loop-turn.turn) (c.args.bound - (c.loop-turn.turn + 1)) _ c.loop-turn.machine _ _ (g.O.Sink.written c.make_turn.new.out) k c.loop-turn.invariant.so_far c.in-Ok-Some.end _ c.make_turn.new.machine (search (rules, c.in-Ok-Some.ensures.end, c.in-Ok-Some.field-0-is)) c.steps_to.ensures c.in-Ok-Some.ensures.state
-
-pub returns-in-Ok-Some-clause-puts : goal.returns-in-Ok-Some-clause-puts
-returns-in-Ok-Some-clause-puts g c =
-    let k : c.args.bound - c.loop-turn.turn ≡ suc (c.args.bound - (c.loop-turn.turn + 1)) = omega arith in
-    went _ _ _ _ _ _ (put_here _ (c.args.bound - c.loop-turn.turn) (c.args.bound - (c.loop-turn.turn + 1)) _ c.loop-turn.machine _ _ (g.O.Sink.written c.make_turn.new.out) k c.loop-turn.invariant.so_far c.in-Ok-Some.end (search (rules, c.in-Ok-Some.ensures.end, c.in-Ok-Some.field-0-is)) c.in-Ok-Some.ensures.puts.whole)
-    (omega (arith, c.loop-turn.invariant.never, c.in-Ok-Some.ensures.puts.never_falls))
-
-pub returns-clause-ended : goal.returns-clause-ended
-returns-clause-ended g c =
-    let k : c.args.bound - c.loop-turn.turn ≡ zero = omega arith in
-    let over : c.args.bound ≡ c.loop-turn.turn = omega arith in
-    rw c.pc.ensures (runs_out _ (c.args.bound - c.loop-turn.turn) _ c.loop-turn.machine _ _ k c.loop-turn.invariant.so_far _ over)
-
-pub returns-clause-puts : goal.returns-clause-puts
-returns-clause-puts g c =
-    let k : c.args.bound - c.loop-turn.turn ≡ zero = omega arith in
-    went _ _ _ _ _ _ (put_by_then _ (c.args.bound - c.loop-turn.turn) _ c.loop-turn.machine _ _ k c.loop-turn.invariant.so_far) c.loop-turn.invariant.never
+pub returns-in-Err-say-clause-puts : goal.returns-in-Err-say-clause-puts
+returns-in-Err-say-clause-puts g c =
+    stopped _ _ c.in-Err-say.stop _ _ _ _ _ _ _ _ c.loop-line.invariant.never c.in-Err-say.ensures
+    (stops_here _ _ _ _ _ c.loop-line.invariant.so_far c.in-Ok-Said.line (rw c.in-Ok-Said.field-0-is at c.in-Ok-Said.ensures) (g.O.Sink.written c.say.new.out) c.in-Err-say.ensures.part)

@@ -1,5 +1,5 @@
 //! Runs of scripts by the top call, over files and outputs in memory.
-use crate::{Status, host_main};
+use host_engine::{Status, host_main};
 use std::alloc::Global;
 use std::process::Abort;
 use std::test::Fail;
@@ -57,11 +57,21 @@ fn ran(alloc: Global, script: &[u8], file: &[u8], fail: &[u32]) -> Result<Answer
 
 /// Runs the script file `S` of some files.
 fn run_over(alloc: Global, files: MemFiles, fail: &[u32]) -> Result<Answered, Fail> {
+    command_over(alloc, &["run", "S"], files, fail)
+}
+
+/// Does what words ask for, over some files.
+fn command_over(
+    alloc: Global,
+    command: &[&str],
+    files: MemFiles,
+    fail: &[u32],
+) -> Result<Answered, Fail> {
     let mut files = files;
     let mut out = MemSink::new(alloc, 1000, Vec::from_slice(alloc, fail)?)?;
     let mut err = MemSink::new(alloc, 200, Vec::new(alloc))?;
     let mut words = Vec::new(alloc);
-    for word in ["run", "S"].iter() {
+    for word in command {
         words.push(String::from_str(alloc, *word)?)?;
     }
     let status = host_main(alloc, words.as_slice(), &mut files, &mut out, &mut err);
@@ -241,7 +251,50 @@ fn a_text_is_assembled_to_the_image_of_the_file(rt: HostRuntime) -> Result<(), F
 #[test]
 fn images_are_made_of_texts(rt: HostRuntime) -> Result<(), Fail> {
     let alloc = rt.alloc();
-    let rows: [(&[u8], &str); 2] = [
+    let rows: [(&[u8], &str); 3] = [
+        // a page of type 2 that a guest is given, and keeps when it is unloaded
+        (
+            b"ram_pages = 256
+[[image]]
+name = \"a\"
+text = \"\"\"
+start: addi sp, sp, -32
+sd ra, 0(sp)
+sd zero, 8(sp)
+ld t0, 96(a1)
+ld t0, 40(t0)
+addi a0, zero, 0
+addi a1, zero, 2
+addi a2, zero, 1
+addi a3, sp, 8
+jalr ra, 0(t0)
+ld a0, 8(sp)
+ld ra, 0(sp)
+addi sp, sp, 32
+ret
+\"\"\"
+[[step]]
+do = \"load\"
+image = \"a\"
+[[step]]
+do = \"start\"
+image = \"a\"
+[[step]]
+do = \"memmap\"
+",
+            "load a 0000000000000000 00000000400ba000 2
+start a 00000000400b8000 16
+memmap 6
+7 0000000040000000 184 0000000000000008
+2 00000000400b8000 1 0000000000000008
+7 00000000400b9000 3 0000000000000008
+2 00000000400bc000 33 0000000000000008
+4 00000000400dd000 33 0000000000000008
+6 00000000400fe000 1 8000000000000008
+5 00000000400ff000 1 8000000000000008
+end
+",
+        ),
         // one site of a doubleword, in an image that is moved
         (
             b"
@@ -287,6 +340,102 @@ image = \"x\"
         let made = ran(alloc, script, b"", &[])?;
         expect(&rt, &made, Status::Done, *lines, "");
     }
+    Ok(())
+}
+
+#[test]
+fn an_image_file_is_told_and_listed(rt: HostRuntime) -> Result<(), Fail> {
+    let alloc = rt.alloc();
+    let file = image(alloc, HELLO)?;
+    let cut = file.as_slice().get(..367).unwrap_or(b"".as_slice());
+    let rows: [(&str, &[u8], Status, &str); 4] = [
+        (
+            "image",
+            file.as_slice(),
+            Status::Done,
+            "image 10 0000000000000000 8192 4096 4096 relocatable\nsection 0 4096 50 50 r-x\nend\n",
+        ),
+        (
+            "list",
+            file.as_slice(),
+            Status::Done,
+            "section 0
+00001000 0405b503 ld a0, 64(a1)
+00001004 00000597 auipc a1, 0
+00001008 02858593 addi a1, a1, 40
+0000100c 00853283 ld t0, 8(a0)
+00001010 ff010113 addi sp, sp, -16
+00001014 00113423 sd ra, 8(sp)
+00001018 000280e7 jalr ra, 0(t0)
+0000101c 00813083 ld ra, 8(sp)
+00001020 01010113 addi sp, sp, 16
+00001024 00000513 addi a0, zero, 0
+00001028 00008067 jalr zero, 0(ra)
+0000102c 0048 addi a0, sp, 4
+0000102e 0069 addi zero, zero, 26
+00001030 0000 -
+end
+",
+        ),
+        ("image", cut, Status::Halted, "refused Truncated(364)\n"),
+        ("list", cut, Status::Halted, "refused Truncated(364)\n"),
+    ];
+    for (command, bytes, status, lines) in rows.iter() {
+        let mut files = MemFiles::new(alloc, Vec::new(alloc));
+        files.add(alloc, "app.efi", *bytes)?;
+        let told = command_over(alloc, &[*command, "app.efi"], files, &[])?;
+        expect(&rt, &told, *status, *lines, "");
+    }
+    Ok(())
+}
+
+/// Loads the image, prints the map, starts the image, and prints the map again.
+const MAPS: &[u8] = b"
+[[image]]
+name = \"app\"
+file = \"app.efi\"
+[[step]]
+do = \"load\"
+image = \"app\"
+[[step]]
+do = \"memmap\"
+[[step]]
+do = \"start\"
+image = \"app\"
+[[step]]
+do = \"memmap\"
+";
+
+#[test]
+fn the_memory_map_is_told_with_its_key(rt: HostRuntime) -> Result<(), Fail> {
+    let alloc = rt.alloc();
+    let file = image(alloc, HELLO)?;
+    let told = ran(alloc, MAPS, file.as_slice(), &[])?;
+    expect(
+        &rt,
+        &told,
+        Status::Done,
+        "load app 0000000000000000 0000000040fba000 2
+memmap 3
+7 0000000040000000 4025 0000000000000008
+4 0000000040fb9000 1 0000000000000008
+1 0000000040fba000 2 0000000000000008
+2 0000000040fbc000 33 0000000000000008
+4 0000000040fdd000 33 0000000000000008
+6 0000000040ffe000 1 8000000000000008
+5 0000000040fff000 1 8000000000000008
+console Hi
+start app 0000000000000000 13
+memmap 5
+7 0000000040000000 4028 0000000000000008
+2 0000000040fbc000 33 0000000000000008
+4 0000000040fdd000 33 0000000000000008
+6 0000000040ffe000 1 8000000000000008
+5 0000000040fff000 1 8000000000000008
+end
+",
+        "",
+    );
     Ok(())
 }
 

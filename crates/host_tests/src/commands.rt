@@ -1,5 +1,5 @@
 //! Runs of the top call over files and outputs in memory.
-use crate::{Status, host_main};
+use host_engine::{Status, host_main};
 use std::alloc::Global;
 use std::process::Abort;
 use std::test::Fail;

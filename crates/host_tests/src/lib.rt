@@ -1,0 +1,7 @@
+//! Tests of the commands, through the top call.
+#![tactic(auto)]
+
+#[cfg(test)]
+mod commands;
+#[cfg(test)]
+mod runs;
