@@ -1,0 +1,11 @@
+pub mod Refusals
+pub mod Outputs
+pub mod Finding
+pub mod Installing
+pub mod Opening
+pub mod Pairs
+pub mod Multiple
+pub mod Searching
+pub mod Blocks
+pub mod Lists
+pub mod Services

@@ -1,0 +1,4 @@
+pub mod OutputLemmas
+pub mod MarkLemmas
+pub mod InputLemmas
+pub mod SetLemmas

@@ -1,0 +1,12 @@
+pub mod Inputs
+pub mod Outputs
+pub mod Counts
+pub mod TimeServices
+pub mod Refusals
+pub mod GetVariable
+pub mod NextName
+pub mod SetVariable
+pub mod VariableInfo
+pub mod Capsules
+pub mod Slots
+pub mod Serving

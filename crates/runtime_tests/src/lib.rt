@@ -1,0 +1,5 @@
+//! Tests of the runtime services.
+#![tactic(auto)]
+
+#[cfg(test)]
+mod services;
