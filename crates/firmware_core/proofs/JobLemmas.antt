@@ -1,13 +1,16 @@
 -- A job is what its next turn that isn't silent says, and the rest.
-use Rattle.std.proofs.Common.{◌≡◌, ◌≢◌, ℕ, zero, suc, ◌+◌, ◌≤◌, ◌<◌, ◌-◌, None, Result, Ok, Err, IfOk, Bool, true, false, refl, sym, ap, subst, ◌∙◌, arith}
+use Rattle.std.proofs.Common.{◌≡◌, ◌≢◌, ℕ, zero, suc, ◌+◌, ◌≤◌, ◌<◌, ◌-◌, Option, Some, None, Result, Ok, Err, IfOk, Bool, true, false, refl, sym, ap, subst, ◌∙◌, arith}
+use Rattle.std.specs.Option.{is_some}
 use Rattle.record_text.specs.declared.cause.Cause.TheVariants as causes
 use Rattle.firmware_core.specs.declared.happened.Happened.{Happened}
 use Rattle.firmware_core.specs.declared.happened.Happened.TheVariants.{Turned, Said, Left, Halted}
 use Rattle.rv_step.specs.declared.ends.StepEnd.TheVariants as ends
+use Rattle.rv_step.specs.declared.ends.Trap.{Trap}
+use Rattle.firmware_core.specs.declared.happened.Halt.{Halt}
 use Rattle.firmware_core.specs.Parts.{Parts}
-use Rattle.firmware_core.specs.Turns.{State, Turn, turn_of, halted, instructed, slot_at, counted}
+use Rattle.firmware_core.specs.Turns.{State, Turn, turn_of, instruction_turn, halted, trapped, instructed, slot_at, counted}
 use Rattle.firmware_core.specs.Jobs.{Job, joined, said_before, turns_of, steps_left, job_of, or_next, first_said, next_said, goes_on, Says}
-use Rattle.firmware_core.proofs.TurnLemmas.{turn_counts, last_turn, plain_turn}
+use Rattle.firmware_core.proofs.TurnLemmas.{turn_counts, last_turn, plain_turn, plain_is, trap_is, frames_is}
 
 -- ---- a silent turn
 
@@ -92,21 +95,24 @@ jobs_are_said s within = goes (steps_left s) s refl within
 
 -- ---- a job under way
 
--- So far the machine said nothing, and the next turn that says something is the same.
+-- So far the machine said nothing, and the next turn that says something is the same. At first nothing has changed, and the first
+-- instruction is one turn.
 pub record Silent (old now : State) (step end : ℕ) : Type 0 where
   pub said : next_said now ≡ next_said old
   pub at : now.steps ≡ step
   pub bound : now.bound ≡ old.bound
-  pub last : end ≡ old.bound
+  pub last : end ≤ old.bound
   pub since : old.steps ≤ step
+  pub first : step ≡ old.steps → now ≡ old
+  pub second : step ≡ old.steps + 1 → record { happened = Turned; state = now } ≡ instruction_turn old
 
 module _ (old now : State) (step end : ℕ) (silent : Silent old now step end) (below : step < end) where
   pub steps_below : now.steps < now.bound
   steps_below = let at = silent.at in let bound = silent.bound in let last = silent.last in omega arith
 
   pub goes_silently : (new : Parts) (t : State) → slot_at now.firmware ≡ None → record { end = ends.Next; firmware = new } ≡ instructed now.firmware → t ≡ counted now new → Silent old t (step + 1) end
-  goes_silently new t none e is =
-      let turn = plain_turn now new steps_below none e in
+  goes_silently new t none instructed_now is =
+      let turn = plain_turn now new steps_below none instructed_now in
       let within : now.steps ≤ now.bound = let b = steps_below in omega arith in
       let said : next_said now ≡ next_said (turn_of now).state = silent_goes now within (ap (λ (x : Turn). x.happened) turn) in
       let state : (turn_of now).state ≡ t = ap (λ (x : Turn). x.state) turn ∙ sym is in
@@ -118,7 +124,35 @@ module _ (old now : State) (step end : ℕ) (silent : Silent old now step end) (
         bound = ap (λ (x : State). x.bound) is ∙ silent.bound;
         last = silent.last;
         since = omega arith;
+        first = λ e. (let none : ⊥ = omega arith in absurd none);
+        second = λ e. (let is_first : step ≡ old.steps = omega arith in
+            ap (λ (x : State). record { happened = Turned; state = x }) is ∙ plain_is now new instructed_now ∙ ap instruction_turn (silent.first is_first));
       }
+
+  module _ (one : end ≡ old.steps + 1) where
+    is_first : step ≡ old.steps
+    is_first = let since = silent.since in omega arith
+
+    pub is_old : now ≡ old
+    is_old = silent.first is_first
+
+  -- where the first turn alone is asked for, a slot that comes isn't the first
+  pub no_slot_first : {X : Type 0} (slot : Option ℕ) → slot ≡ slot_at now.firmware → true ≡ is_some slot → end ≡ old.steps + 1 → slot_at old.firmware ≡ None → X
+  no_slot_first None e some one none = let bad : ⊥ = cc in absurd bad
+  no_slot_first (Some k) e some one none =
+      let same : slot_at now.firmware ≡ slot_at old.firmware = ap (λ (s : State). slot_at s.firmware) (is_old one) in
+      let bad : Some k ≡ None = e ∙ same ∙ none in
+      let none : ⊥ = cc in absurd none
+
+  pub trap_first : (trap : Trap) (new : Parts) (halt : Halt) → (ends.Trap trap ≢ ends.Memory → record { end = ends.Trap trap; firmware = new } ≡ instructed now.firmware) → Halted halt ≡ trapped trap now.firmware.hart.pc → end ≡ old.steps + 1
+      → record { happened = Halted halt; state = record now { firmware = new } } ≡ instruction_turn old
+  trap_first trap new halt h is one =
+      ap (λ (x : Happened). record { happened = x; state = record now { firmware = new } }) is
+      ∙ trap_is now new trap (h (λ (e : ends.Trap trap ≡ ends.Memory). cc)) ∙ ap instruction_turn (is_old one)
+
+  pub frames_first : (new : Parts) → (ends.Frames ≢ ends.Memory → record { end = ends.Frames; firmware = new } ≡ instructed now.firmware) → end ≡ old.steps + 1
+      → record { happened = halted causes.Frames now.firmware.hart.pc 0; state = record now { firmware = new } } ≡ instruction_turn old
+  frames_first new h one = frames_is now new (h (λ (e : ends.Frames ≡ ends.Memory). cc)) ∙ ap instruction_turn (is_old one)
 
 -- So far the machine said nothing, and made at least a turn in each round.
 pub record Underway (old now : State) (round end : ℕ) : Type 0 where

@@ -13,7 +13,8 @@ spreads layout h =
     let room = h.ram.room in let most = h.ram.most in let end = h.ram.end in
     let slots : layout.slots ≡ layout.base + 4096 * layout.pages - 0x1000 = ap (λ (l : Layout). l.slots) h.places in
     let args : layout.os_args ≡ layout.base + 4096 * layout.pages - 0x34000 = ap (λ (l : Layout). l.os_args) h.places in
-    record { args = omega arith; slots = omega arith; end = end; some = room; few = most }
+    let boot : layout.boot ≡ layout.base + 4096 * layout.pages - 0x3000 = ap (λ (l : Layout). l.boot) h.places in
+    record { args = omega arith; slots = omega arith; boot = omega arith; end = end; some = room; few = most }
 
 -- fresh memory is the RAM of its layout
 pub ram_of : (layout : Layout) (m : Pages) (base pages : ℕ) → layout ≡ layout_at base pages → IsLayout layout → m ≡ fresh base pages → IsRamOf layout m

@@ -1,4 +1,5 @@
 pub mod LayoutLemmas
+pub mod ConsoleLemmas
 pub mod TurnLemmas
 pub mod JobLemmas
 pub mod PartLemmas

@@ -22,6 +22,20 @@ module _ (f : Parts) (r : Runtime) (is : r ≡ f.runtime) (whole : Whole f) (m :
       map_count = same.map_count ∙ belongs.map_count;
     };
     pool = together;
+    clock = whole.clock;
+  }
+
+  pub whole_parts : (q : PageList) (pool : List BlockPage) → m.base ≡ r.memory.base → m.pages ≡ r.memory.pages → q.base ≡ r.pages.base → length q.pages ≡ length r.pages.pages → Together pool q → Whole (record f { runtime = record r { memory = m; pages = q }; pool = pool })
+  whole_parts q pool base count map_base map_count together = record {
+    runtime = record {
+      is_layout = belongs.is_layout;
+      base = base ∙ belongs.base;
+      count = count ∙ belongs.count;
+      map_base = map_base ∙ belongs.map_base;
+      map_count = map_count ∙ belongs.map_count;
+    };
+    pool = together;
+    clock = whole.clock;
   }
 
   pub whole_memory : m.base ≡ r.memory.base → m.pages ≡ r.memory.pages → Whole (record f { runtime = record r { memory = m } })
@@ -34,6 +48,7 @@ module _ (f : Parts) (r : Runtime) (is : r ≡ f.runtime) (whole : Whole f) (m :
       map_count = belongs.map_count;
     };
     pool = subst (λ (x : Runtime). Together f.pool x.pages) (sym is) whole.pool;
+    clock = whole.clock;
   }
 
   -- the pool is that of the same pages

@@ -97,6 +97,19 @@ not_carried f new end h memory next =
     let e = h memory in
     ap (λ (i : Instructed). i.firmware) e ∙ left_alone f (λ same. next (ap (λ (i : Instructed). i.end) e ∙ same))
 
+-- what an instruction that ends so makes of the turn
+pub plain_is : (s : State) (new : Parts) → record { end = ends.Next; firmware = new } ≡ instructed s.firmware → record { happened = Turned; state = counted s new } ≡ instruction_turn s
+unfolding instruction_turn
+plain_is s new e = let back = sym e in rw back refl
+
+pub trap_is : (s : State) (new : Parts) (trap : Trap) → record { end = ends.Trap trap; firmware = new } ≡ instructed s.firmware → record { happened = trapped trap s.firmware.hart.pc; state = record s { firmware = new } } ≡ instruction_turn s
+unfolding instruction_turn
+trap_is s new trap e = let back = sym e in rw back refl
+
+pub frames_is : (s : State) (new : Parts) → record { end = ends.Frames; firmware = new } ≡ instructed s.firmware → record { happened = halted causes.Frames s.firmware.hart.pc 0; state = record s { firmware = new } } ≡ instruction_turn s
+unfolding instruction_turn
+frames_is s new e = let back = sym e in rw back refl
+
 -- where no slot and no bound comes, an instruction that is carried out is the turn
 pub plain_turn : (s : State) (new : Parts) → s.steps < s.bound → slot_at s.firmware ≡ None → record { end = ends.Next; firmware = new } ≡ instructed s.firmware → turn_of s ≡ record { happened = Turned; state = counted s new }
 unfolding turn_of next_turn instruction_turn

@@ -2,10 +2,12 @@
 use Rattle.std.specs.Prelude.{ℕ, zero, suc, ◌≡◌, ◌≢◌, ◌+◌, ◌-◌, ◌*◌, ◌<◌, List, [], ◌∷◌, Bool, true, false, Option, Some, None, replicate, slice_set, if◌then◌else◌}
 use Rattle.page_alloc.specs.declared.layout.Layout.{Layout}
 use Rattle.record_text.specs.declared.line.Line.{Line}
-use Rattle.image_services.specs.declared.images.Loaded.{Loaded}
-use Rattle.image_services.specs.Images.{find_image, with_started}
+use Rattle.record_text.specs.declared.cause.Cause.TheVariants as causes
+use Rattle.image_services.specs.Images.{Loaded, find_image, with_started}
 use Rattle.firmware_core.specs.declared.happened.Happened.{Happened}
 use Rattle.firmware_core.specs.declared.happened.Happened.TheVariants.{Turned, Said, Left, Halted}
+use Rattle.firmware_core.specs.declared.happened.JobEnd.{JobEnd}
+use Rattle.firmware_core.specs.declared.happened.JobEnd.TheVariants as ends
 use Rattle.firmware_core.specs.declared.job.Job as declared
 use Rattle.firmware_core.specs.declared.job.Job.TheVariants.{Start}
 use Rattle.firmware_core.specs.Turns.{State, Turn, turn_of}
@@ -18,13 +20,13 @@ abbrev pub registers_at_start : Layout → ℕ → List ℕ
 registers_at_start layout handle =
     slice_set (slice_set (slice_set (slice_set (replicate 32 0) 1 (layout.slots + 16 * 67)) 2 layout.boot) 10 handle) 11 layout.system
 
--- the machine with an image that begins, for at most so many steps
-unfoldable pub started : State → Loaded → ℕ → State
-started s image bound = record {
+-- the machine with the image of a handle that begins at its entry point, for at most so many steps
+unfoldable pub started : State → ℕ → ℕ → ℕ → State
+started s handle entry bound = record {
   firmware = record s.firmware {
-    hart = record { x = registers_at_start s.firmware.runtime.layout image.handle; pc = image.entry };
-    running = Some image.handle;
-    images = with_started s.firmware.images image.handle;
+    hart = record { x = registers_at_start s.firmware.runtime.layout handle; pc = entry };
+    running = Some handle;
+    images = with_started s.firmware.images handle;
   };
   steps = 0;
   bound = bound;
@@ -35,20 +37,24 @@ pub record Begun : Type 0 where
   pub begins : Bool
   pub state : State
 
--- An image begins once.
-abbrev pub start_of : State → ℕ → Option Loaded → Begun
-start_of s bound None = record { begins = false; state = s }
-start_of s bound (Some image) = if image.started then record { begins = false; state = s } else record { begins = true; state = started s image bound }
+-- the entry point of an image that is loaded and wasn't started: an image begins once
+abbrev pub fresh_entry : Option Loaded → Option ℕ
+fresh_entry None = None
+fresh_entry (Some image) = if image.started then None else Some image.entry
+
+abbrev pub start_at : State → ℕ → ℕ → Option ℕ → Begun
+start_at s handle bound None = record { begins = false; state = s }
+start_at s handle bound (Some entry) = record { begins = true; state = started s handle entry bound }
 
 unfoldable pub begun : State → declared.Job → Begun
-begun s (Start handle bound) = start_of s bound (find_image s.firmware.images handle)
+begun s (Start handle bound) = start_at s handle bound (fresh_entry (find_image s.firmware.images handle))
 
 -- ---- the turns
 
 -- what a job says, how it ends, and the machine behind it
 pub record Job : Type 0 where
   pub lines : List Line
-  pub end : Happened
+  pub end : JobEnd
   pub state : State
 
 abbrev pub said_before : Line → Job → Job
@@ -58,12 +64,16 @@ said_before line job = record { lines = line ∷ job.lines; end = job.end; state
 abbrev pub joined : Happened → State → Job → Job
 joined Turned state rest = rest
 joined (Said line) state rest = said_before line rest
-joined (Left value steps) state rest = record { lines = []; end = Left value steps; state = state }
-joined (Halted halt) state rest = record { lines = []; end = Halted halt; state = state }
+joined (Left value steps) state rest = record { lines = []; end = ends.Left value steps; state = state }
+joined (Halted halt) state rest = record { lines = []; end = ends.Halted halt; state = state }
 
--- a job of at most so many turns and one
+-- the end of a job whose bound is reached
+abbrev pub at_bound : State → Job
+at_bound s = record { lines = []; end = ends.Halted (record { cause = causes.Bound; pc = s.firmware.hart.pc; at = 0 }); state = s }
+
+-- a job of at most so many counted turns
 unfoldable pub turns_of : ℕ → State → Job
-turns_of zero s = joined (turn_of s).happened (turn_of s).state (record { lines = []; end = (turn_of s).happened; state = (turn_of s).state })
+turns_of zero s = at_bound s
 turns_of (suc more) s = joined (turn_of s).happened (turn_of s).state (turns_of more (turn_of s).state)
 
 -- the steps that are left to the job

@@ -4,3 +4,4 @@ pub mod Services
 pub mod Turns
 pub mod Jobs
 pub mod Loads
+pub mod Views

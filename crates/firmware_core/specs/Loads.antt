@@ -1,11 +1,10 @@
 -- The load of an image into a machine.
-use Rattle.std.specs.Prelude.{ℕ, ◌≡◌, ◌+◌, List, Option, Some, None, Result, Ok, Err}
+use Rattle.std.specs.Prelude.{ℕ, List, Option, Some, None, Result, Ok, Err}
 use Rattle.uh_base.specs.Statuses.{success}
-use Rattle.image_services.specs.declared.images.Loaded.{Loaded}
 use Rattle.image_services.specs.declared.refusal.LoadRefusal.{LoadRefusal}
-use Rattle.image_services.specs.Images.{find_image, handle_of}
+use Rattle.image_services.specs.Images.{Loaded, find_image}
 use Rattle.image_services.specs.Stores.{Store}
-use Rattle.image_services.specs.Loads.{load_of}
+use Rattle.image_services.specs.Loads.{Load, load_of}
 use Rattle.image_services.specs.Status.{load_status}
 use Rattle.firmware_core.specs.Parts.{Parts}
 use Rattle.firmware_core.specs.Services.{store_of, with_store}
@@ -24,16 +23,13 @@ answer_for s handle None = record { status = success; handle = 0; base = 0; page
 answer_for s handle (Some image) = record { status = success; handle = handle; base = image.base; pages = image.pages; state = s }
 
 abbrev pub with_loaded : State → Store → State
-with_loaded s store = record s { firmware = record (with_store s.firmware store) { handles = s.firmware.handles + 1 } }
+with_loaded s store = record s { firmware = with_store s.firmware store }
 
--- the handle of what is loaded next
-abbrev pub next_handle : State → ℕ
-next_handle s = handle_of (s.firmware.handles + 1)
-
-abbrev pub load_comes_to : State → Result Store LoadRefusal → LoadDone
-load_comes_to s (Ok store) = answer_for (with_loaded s store) (next_handle s) (find_image store.images (next_handle s))
+-- No event is registered for the protocol of the image's handle, since no service registers one yet.
+abbrev pub load_comes_to : State → Result Load LoadRefusal → LoadDone
+load_comes_to s (Ok load) = answer_for (with_loaded s load.after) load.answer.handle (find_image load.after.images load.answer.handle)
 load_comes_to s (Err refusal) = record { status = load_status refusal; handle = 0; base = 0; pages = 0; state = s }
 
 -- An image is loaded without a parent.
 unfoldable pub loaded : State → List ℕ → LoadDone
-loaded s file = load_comes_to s (load_of s.firmware.runtime.layout (store_of s.firmware) s.firmware.handles file 0)
+loaded s file = load_comes_to s (load_of s.firmware.runtime.layout (store_of s.firmware) file 0)

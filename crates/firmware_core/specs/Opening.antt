@@ -1,5 +1,5 @@
 -- The machine at opening.
-use Rattle.std.specs.Prelude.{ℕ, ◌+◌, ◌*◌, ◌/◌, ◌-◌, [], ◌∷◌, false, true, replicate, None}
+use Rattle.std.specs.Prelude.{ℕ, ◌+◌, ◌*◌, ◌/◌, ◌-◌, List, [], ◌∷◌, false, true, replicate, None}
 use Rattle.guest_memory.specs.declared.rights.Rights.{Rights}
 use Rattle.guest_memory.specs.Pages.{Pages, all_rights}
 use Rattle.guest_memory.specs.Changes.{reserved, with_rights}
@@ -7,7 +7,12 @@ use Rattle.page_alloc.specs.declared.layout.Layout.{Layout}
 use Rattle.page_alloc.specs.Layout.{layout_at}
 use Rattle.page_alloc.specs.Pages.{PageList}
 use Rattle.page_alloc.specs.Opening.{opening_pages}
+use Rattle.uh_base.specs.declared.guid.Guid.{Guid}
+use Rattle.handle_db.specs.Database.{fresh as fresh_protocol}
+use Rattle.protocol_db.specs.Registrations.{Protocols}
 use Rattle.system_tables.specs.Memory.{built}
+use Rattle.variable_store.specs.Entries.{Entry}
+use Rattle.time_service.specs.Clocks.{ClockState}
 use Rattle.virtual_map.specs.States.{Runtime}
 use Rattle.firmware_core.specs.Parts.{Parts}
 
@@ -19,14 +24,14 @@ abbrev pub readable : Rights
 readable = record { read = true; write = false; exec = false }
 
 -- the page of RAM at an address
-abbrev pub page_at : Layout → ℕ → ℕ
-page_at layout at = (at - layout.base) / 4096
+abbrev pub page_of_ram : Layout → ℕ → ℕ
+page_of_ram layout at = (at - layout.base) / 4096
 
 -- The tables are built; the pages of the operating system's arguments and the slot page are touched, and the slot page may
 -- only be read.
 abbrev pub with_firmware : Layout → Pages → Pages
 with_firmware layout m =
-    with_rights (reserved (reserved (built layout m) (page_at layout layout.os_args) 16) (page_at layout layout.slots) 1) (page_at layout layout.slots) 1 readable
+    with_rights (reserved (reserved (built layout m) (page_of_ram layout layout.os_args) 16) (page_of_ram layout layout.slots) 1) (page_of_ram layout layout.slots) 1 readable
 
 -- The memory map is that of opening, and one window shows RAM at its own addresses.
 abbrev pub runtime_at : ℕ → ℕ → Runtime
@@ -37,14 +42,29 @@ runtime_at base pages = record {
   view = record { virt = base; phys = base; len = 4096 * pages } ∷ [];
 }
 
--- Every register is 0, no image is loaded, the pool has no block, and one handle was made, that of the console.
-unfoldable pub opened : ℕ → ℕ → Parts
-opened base pages = record {
+-- EFI_SIMPLE_TEXT_OUTPUT_PROTOCOL_GUID, 387477c2-69c7-11d2-8e39-00a0c969723b (UEFI 2.10, 12.4.1)
+abbrev pub text_output_protocol : Guid
+text_output_protocol = record { d1 = 0x387477c2; d2 = 0x69c7; d3 = 0x11d2; d4 = 0x8e3900a0c969723b }
+
+-- One handle was made, 16, that of the console; its interface stands behind the boot services table. No event is registered.
+abbrev pub with_console : Layout → Protocols
+with_console layout = record {
+  handles = record { live = record { number = 16; protocols = fresh_protocol text_output_protocol (layout.boot + 0x200) ∷ [] } ∷ []; made = 1 };
+  registrations = [];
+  made = 0;
+}
+
+-- Every register is 0, no image is loaded, the pool has no block, and the monotonic count is 0.
+unfoldable pub opened : ℕ → ℕ → ClockState → List Entry → Parts
+opened base pages clock variables = record {
   hart = record { x = replicate 32 0; pc = 0 };
   running = None;
   time = 0;
   runtime = runtime_at base pages;
   pool = [];
   images = [];
-  handles = 1;
+  protocols = with_console (layout_at base pages);
+  variables = variables;
+  clock = clock;
+  count = 0;
 }

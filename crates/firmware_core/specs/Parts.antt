@@ -2,7 +2,10 @@
 use Rattle.std.specs.Prelude.{ℕ, ◌≡◌, ◌+◌, ◌*◌, ◌^◌, ◌≤◌, List, Option}
 use Rattle.page_alloc.specs.declared.layout.Layout.{Layout}
 use Rattle.pool_alloc.specs.Pool.{BlockPage, Together}
-use Rattle.image_services.specs.declared.images.Loaded.{Loaded}
+use Rattle.protocol_db.specs.Registrations.{Protocols}
+use Rattle.variable_store.specs.Entries.{Entry}
+use Rattle.time_service.specs.Clocks.{ClockState}
+use Rattle.image_services.specs.Images.{Loaded}
 use Rattle.virtual_map.specs.States.{Runtime, Belongs}
 
 -- the registers x0 to x31, and the program counter
@@ -19,19 +22,27 @@ pub record Parts : Type 0 where
   -- RAM, how it is used and seen
   pub runtime : Runtime
   pub pool : List BlockPage
-  -- the loaded images, in order of loading, and how many handles were made
+  -- the loaded images, in order of loading
   pub images : List Loaded
-  pub handles : ℕ
+  -- the handles with their protocols
+  pub protocols : Protocols
+  -- the variables in order of making, the clock, and the monotonic count
+  pub variables : List Entry
+  pub clock : ClockState
+  pub count : ℕ
 
 -- the parts belong together
 pub record Whole (f : Parts) : Type 0 where
   pub runtime : Belongs f.runtime
   pub pool : Together f.pool f.runtime.pages
+  -- The clock was set before now.
+  pub clock : f.clock.set_at ≤ f.time
 
 -- where the places of a layout lie
 pub record Spread (layout : Layout) : Type 0 where
   pub args : layout.os_args + 0x34000 ≡ layout.base + 4096 * layout.pages
   pub slots : layout.slots + 0x1000 ≡ layout.base + 4096 * layout.pages
+  pub boot : layout.boot + 0x3000 ≡ layout.base + 4096 * layout.pages
   pub end : layout.base + 4096 * layout.pages ≤ 2 ^ 47
   pub some : 256 ≤ layout.pages
   pub few : layout.pages ≤ 1048576

@@ -1,5 +1,5 @@
 -- Each service of the firmware, over the parts that it reads and changes.
-use Rattle.std.specs.Prelude.{ℕ, ◌+◌, ◌==◌, ◌&&◌, not, nat_lt, ◌^◌, Bool, List, Option, Some, None, if◌then◌else◌}
+use Rattle.std.specs.Prelude.{ℕ, ◌+◌, ◌==◌, ◌&&◌, not, nat_lt, ◌^◌, Bool, false, is_some, List, Option, Some, None, if◌then◌else◌}
 use Rattle.uh_base.specs.Statuses.{success, unsupported}
 use Rattle.guest_memory.specs.Pages.{Pages}
 use Rattle.page_alloc.specs.Pages.{PageList}
@@ -15,8 +15,11 @@ use Rattle.memory_services.specs.MapService.{get_memory_map}
 use Rattle.memory_services.specs.Copies.{calculate_crc32, copy_mem, set_mem}
 use Rattle.console_services.specs.Console as console
 use Rattle.console_services.specs.Console.{Reply, output_string, test_string, set_mode}
-use Rattle.image_services.specs.declared.images.Loaded.{Loaded}
-use Rattle.image_services.specs.Images.{find_image}
+use Rattle.service_answer.specs.Answers as service
+use Rattle.protocol_services.specs.Services.{is_protocol_slot, serve_protocol}
+use Rattle.runtime_services.specs.Slots.{service_of as runtime_service_of}
+use Rattle.runtime_services.specs.Serving.{serve_runtime}
+use Rattle.image_services.specs.Images.{Loaded, find_image}
 use Rattle.image_services.specs.Stores.{Store}
 use Rattle.image_services.specs.Unloads.{discarded}
 use Rattle.virtual_map.specs.States.{Runtime}
@@ -96,6 +99,24 @@ at_test_string f = record { conclusion = Answers (test_string f.runtime.view f.r
 abbrev pub at_set_mode : Parts → Concluded
 at_set_mode f = record { conclusion = Answers (set_mode (given 1 f)); firmware = f }
 
+-- ---- handles and protocols
+
+-- No event is signalled, since no service registers one for a protocol yet.
+abbrev pub served : service.Answer → Conclusion
+served answer = if answer.frames then Halts causes.Frames else Answers answer.value
+
+unfoldable pub at_protocols : ℕ → Parts → Concluded
+at_protocols slot f =
+    let done = serve_protocol slot f.hart.x (see f.runtime.view) f.runtime.memory f.runtime.pages f.pool f.protocols in
+    record { conclusion = served done.answer; firmware = record (with_pages f done.memory done.pages) { pool = done.pool; protocols = done.protocols } }
+
+-- ---- variables, time, the monotonic count and capsules
+
+unfoldable pub at_runtime : ℕ → Parts → Concluded
+at_runtime slot f =
+    let done = serve_runtime slot f.hart.x (see f.runtime.view) f.runtime.memory f.variables f.clock f.count f.time false in
+    record { conclusion = served done.answer; firmware = record (with_memory f done.memory) { variables = done.variables; clock = done.clock; count = done.count } }
+
 -- ---- the return of an image
 
 -- An application, and a driver whose status is an error, is unloaded when it returns. (UEFI 2.10, 7.4: StartImage)
@@ -104,18 +125,25 @@ stays subsystem status = not (subsystem == 10) && nat_lt status (2 ^ 63)
 
 -- what image services work on
 abbrev pub store_of : Parts → Store
-store_of f = record { images = f.images; memory = f.runtime.memory; pages = f.runtime.pages; pool = f.pool }
+store_of f = record { images = f.images; memory = f.runtime.memory; pages = f.runtime.pages; pool = f.pool; protocols = f.protocols }
 
 abbrev pub with_store : Parts → Store → Parts
-with_store f store = record (with_pages f store.memory store.pages) { pool = store.pool; images = store.images }
+with_store f store = record (with_pages f store.memory store.pages) { pool = store.pool; images = store.images; protocols = store.protocols }
 
-abbrev pub left_by : Parts → ℕ → Option Loaded → Parts
-left_by f status None = f
-left_by f status (Some image) = if stays image.subsystem status then f else with_store f (discarded (store_of f) image.handle)
+-- whether an image is unloaded when it returns with a status
+abbrev pub goes : ℕ → Option Loaded → Bool
+goes status None = false
+goes status (Some image) = not (stays image.subsystem status)
+
+abbrev pub without_running : Parts → Parts
+without_running f = record f { running = None }
+
+abbrev pub without_image : Parts → ℕ → Parts
+without_image f handle = with_store f (discarded (store_of f) handle)
 
 abbrev pub returned : Parts → ℕ → Option ℕ → Parts
 returned f status None = f
-returned f status (Some handle) = left_by (record f { running = None }) status (find_image f.images handle)
+returned f status (Some handle) = if goes status (find_image f.images handle) then without_image (without_running f) handle else without_running f
 
 -- The image that runs returns with the status in a0.
 unfoldable pub at_return : Parts → Concluded
@@ -123,7 +151,7 @@ at_return f = record { conclusion = Leaves (given 0 f); firmware = returned f (g
 
 -- ---- the choice
 
--- the service of a slot: its place in the slot page, 16 bytes each, by this host's choice
+-- the service of any other slot: its place in the slot page, 16 bytes each, by this host's choice
 unfoldable pub service_of : ℕ → Service
 service_of slot =
     if slot == 2 then services.AllocatePages
@@ -161,3 +189,10 @@ serve services.SetMode f = at_set_mode f
 serve services.Screen f = record { conclusion = Answers success; firmware = f }
 serve services.Return f = at_return f
 serve services.Unbuilt f = record { conclusion = Answers unsupported; firmware = f }
+
+-- the service of a slot
+unfoldable pub serve_slot : ℕ → Parts → Concluded
+serve_slot slot f =
+    if is_protocol_slot slot then at_protocols slot f
+    else (if is_some (runtime_service_of slot) then at_runtime slot f
+    else serve (service_of slot) f)

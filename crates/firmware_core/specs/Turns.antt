@@ -14,7 +14,7 @@ use Rattle.firmware_core.specs.declared.happened.Happened.TheVariants.{Turned, S
 use Rattle.firmware_core.specs.declared.conclusion.Conclusion.{Conclusion}
 use Rattle.firmware_core.specs.declared.conclusion.Conclusion.TheVariants.{Answers, Prints, Leaves, Halts}
 use Rattle.firmware_core.specs.Parts.{Parts}
-use Rattle.firmware_core.specs.Services.{Concluded, service_of, serve}
+use Rattle.firmware_core.specs.Services.{Concluded, serve_slot}
 
 -- the parts, and the job under way: its counted steps, and their bound
 pub record State : Type 0 where
@@ -75,7 +75,7 @@ comes_to pc s (Leaves value) f = record { happened = Left value (s.steps + 1); s
 comes_to pc s (Halts cause) f = record { happened = halted cause pc 0; state = record s { firmware = f } }
 
 unfoldable pub service_turn : ℕ → State → Turn
-service_turn slot s = comes_to s.firmware.hart.pc s (serve (service_of slot) s.firmware).conclusion (serve (service_of slot) s.firmware).firmware
+service_turn slot s = comes_to s.firmware.hart.pc s (serve_slot slot s.firmware).conclusion (serve_slot slot s.firmware).firmware
 
 -- ---- an instruction
 
@@ -99,7 +99,7 @@ pub record Instructed : Type 0 where
 unfoldable pub instructed : Parts → Instructed
 instructed f = let c = carried f.hart.x f.hart.pc f.runtime in record { end = c.end; firmware = with_carried f c }
 
--- what is made of an instruction at a program counter
+-- what is made of an instruction at a program counter; a defined one never lacks memory of the host, and the machine stops there
 abbrev pub carried_out : ℕ → State → StepEnd → Parts → Turn
 carried_out pc s ends.Next f = record { happened = Turned; state = counted s f }
 carried_out pc s (ends.Trap trap) f = record { happened = trapped trap pc; state = record s { firmware = f } }

@@ -8,14 +8,17 @@ ghost use Rattle.image_services.specs.Images.{with_started};
 ghost use Rattle.firmware_core.specs.Jobs.{registers_at_start};
 ghost use Rattle.firmware_core.specs.Turns.{slot_at, answered, passed, Instructed, instructed};
 
-use crate::opening::{layout_spreads, runtime_at};
+use crate::opening::{layout_spreads, runtime_at, with_console};
 use address_view::CodePage;
-use image_services::{Images, Loaded};
+use image_services::Images;
 use pool_alloc::Pool;
+use protocol_db::Protocols;
 use rv_decode::KnownWords;
 use rv_step::{Regs, StepEnd};
 use std::alloc::{AllocError, Global};
 use std::marker::Model;
+use time_service::Clock;
+use variable_store::Variables;
 use virtual_map::{RuntimeState, instruction};
 
 /// All that services and instructions read and change.
@@ -29,8 +32,11 @@ pub struct Firmware {
     pub(crate) runtime: RuntimeState,
     pub(crate) pool: Pool,
     pub(crate) images: Images,
-    /// How many handles were made.
-    pub(crate) handles: u64,
+    pub(crate) protocols: Protocols,
+    pub(crate) variables: Variables,
+    pub(crate) clock: Clock,
+    /// The monotonic count.
+    pub(crate) count: u64,
     /// What words were read as.
     pub(crate) known: KnownWords,
     /// The page that the last instruction was fetched from. Whatever changes memory's rights forgets it.
@@ -44,20 +50,28 @@ impl Model for Firmware {
 
     ghost Value = { Parts };
 
-    ghost view = { λ f. record { hart = record { x = f.regs.x; pc = f.regs.pc }; running = f.running; time = f.time; runtime = f.runtime; pool = f.pool; images = f.images; handles = f.handles } };
+    ghost view = { λ f. record { hart = record { x = f.regs.x; pc = f.regs.pc }; running = f.running; time = f.time; runtime = f.runtime; pool = f.pool; images = f.images; protocols = f.protocols; variables = f.variables; clock = f.clock; count = f.count } };
 
-    ghost invariant = { λ f. Whole (record { hart = record { x = f.regs.x; pc = f.regs.pc }; running = f.running; time = f.time; runtime = f.runtime; pool = f.pool; images = f.images; handles = f.handles }) × IsCode (see f.runtime.view) f.runtime.memory f.code };
+    ghost invariant = { λ f. Whole (record { hart = record { x = f.regs.x; pc = f.regs.pc }; running = f.running; time = f.time; runtime = f.runtime; pool = f.pool; images = f.images; protocols = f.protocols; variables = f.variables; clock = f.clock; count = f.count }) × IsCode (see f.runtime.view) f.runtime.memory f.code };
 }
 
 impl Firmware {
-    /// The firmware at opening, over so many pages of RAM from an address on.
+    /// The firmware at opening, over so many pages of RAM from an address on, with a clock and variables.
     #[tactic(auto, unfolding(crate::specs::Opening::opened))]
-    pub(crate) fn new(alloc: Global, base: u64, pages: u32) -> Result<Firmware, AllocError>
-        requires { IsRam base pages }
-        ensures { IfOk result (λ f. f ≡ opened base pages) }
+    pub(crate) fn new(
+        alloc: Global,
+        base: u64,
+        pages: u32,
+        clock: Clock,
+        variables: Variables,
+    ) -> Result<Firmware, AllocError>
+        requires ram { IsRam base pages }
+        requires clock { clock.set_at ≡ 0 }
+        ensures { IfOk result (λ f. f ≡ opened base pages clock variables) }
     {
         let known = KnownWords::new(alloc)?;
         let runtime = runtime_at(alloc, base, pages)?;
+        let protocols = with_console(alloc, &runtime.layout)?;
         Ok(Firmware {
             regs: Regs { x: [0; 32], pc: 0 },
             running: None,
@@ -65,7 +79,10 @@ impl Firmware {
             runtime,
             pool: Pool::new(alloc),
             images: Images::new(alloc),
-            handles: 1,
+            protocols,
+            variables,
+            clock,
+            count: 0,
             known,
             code: CodePage::none(),
         })
@@ -88,7 +105,7 @@ impl Firmware {
 
     /// The slot that the program counter is at.
     #[inline(always)]
-    pub(crate) fn slot_at(&self) -> Option<u64>
+    pub(crate) fn slot_at(&self) -> Option<u8>
         ensures { result ≡ slot_at self.now }
     {
         let slots = self.runtime.layout.slots;
@@ -97,7 +114,7 @@ impl Firmware {
         }
         let offset = self.regs.pc - slots;
         if offset % 16 == 0 && offset <= 16 * 67 && offset != 16 * 17 {
-            Some(offset / 16)
+            Some((offset / 16) as u8)
         } else {
             None
         }
@@ -111,9 +128,9 @@ impl Firmware {
         self.regs.x[10] = a0;
     }
 
-    /// Begins an image at its entry point.
-    pub(crate) fn start(&mut self, image: &Loaded)
-        ensures { self.new ≡ record self.old { hart = record { x = registers_at_start self.old.runtime.layout image.now.handle; pc = image.now.entry }; running = Some image.now.handle; images = with_started self.old.images image.now.handle } }
+    /// Begins the image of a handle at its entry point.
+    pub(crate) fn start(&mut self, handle: u64, entry: u64)
+        ensures { self.new ≡ record self.old { hart = record { x = registers_at_start self.old.runtime.layout handle; pc = entry }; running = Some handle; images = with_started self.old.images handle } }
     {
         self.whole();
         let runtime = &self.runtime;
@@ -121,11 +138,11 @@ impl Firmware {
         let mut x = [0; 32];
         x[1] = runtime.layout.slots + 16 * 67;
         x[2] = runtime.layout.boot;
-        x[10] = image.handle;
+        x[10] = handle;
         x[11] = runtime.layout.system;
-        self.regs = Regs { x, pc: image.entry };
-        self.running = Some(image.handle);
-        self.images.mark(image.handle);
+        self.regs = Regs { x, pc: entry };
+        self.running = Some(handle);
+        self.images.mark(handle);
     }
 
     /// A unit of time passes.

@@ -23,3 +23,12 @@ pub enum Happened {
     /// The run is over.
     Halted(Halt),
 }
+
+/// How a job ends.
+#[derive(Clone, Copy, Debug, PartialEq, Eq, Drop)]
+pub enum JobEnd {
+    /// The image returned: the status in a0, and the steps of the job.
+    Left { value: u64, steps: u64 },
+    /// The run is over.
+    Halted(Halt),
+}

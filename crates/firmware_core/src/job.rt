@@ -1,12 +1,12 @@
 //! A job: an image that is started, and its turns to the end.
-ghost use Rattle.std.specs.Prelude.{◌≡◌, ◌≤◌, IfOk, OnOk};
-ghost use Rattle.firmware_core.specs.Jobs.{begun, started, next_said, Says};
+ghost use Rattle.std.specs.Prelude.{◌≡◌, IfOk};
+ghost use Rattle.image_services.specs.Images.{find_image};
+ghost use Rattle.firmware_core.specs.Jobs.{fresh_entry, begun, started, next_said, Says};
 
+use crate::firmware::Firmware;
 use crate::happened::Happened;
 use crate::machine::Machine;
 use crate::turn::step_machine;
-use image_services::Loaded;
-use rv_step::{Regs, StepEnd};
 use std::alloc::{AllocError, Global};
 
 /// What a machine is to do.
@@ -17,37 +17,33 @@ pub enum Job {
 }
 
 impl Machine {
-    /// Begins an image at its entry point.
+    /// Begins the image of a handle at its entry point.
     #[tactic(auto, unfolding(crate::specs::Jobs::started))]
-    fn start(&mut self, image: &Loaded, bound: u64)
-        ensures { self.new ≡ started self.old image.now bound }
+    fn start(&mut self, handle: u64, entry: u64, bound: u64)
+        ensures { self.new ≡ started self.old handle entry bound }
     {
         let firmware = &mut self.firmware;
-        firmware.start(image);
+        firmware.start(handle, entry);
         self.steps = 0;
         self.bound = bound;
     }
+}
 
-    /// Carries out instructions as long as no other turn comes and none of them ends the run.
-    #[inline(never)]
-    fn run_plain(&mut self) -> Result<(), AllocError>
-        ensures said { OnOk result (next_said self.new ≡ next_said self.old) }
-        ensures bound { self.new.bound ≡ self.old.bound }
-        ensures steps { self.old.steps ≤ self.new.steps }
+impl Firmware {
+    /// The entry point of the image of a handle, if it is loaded and wasn't started.
+    fn fresh_entry(&self, handle: u64) -> Option<u64>
+        ensures { result ≡ fresh_entry (find_image self.now.images handle) }
     {
-        self.whole();
-        for step in self.steps..self.bound {
-            if self.firmware.slot_at().is_some() {
-                return Ok(());
+        match self.images.find(handle) {
+            Some(image) => {
+                if image.started {
+                    None
+                } else {
+                    Some(image.entry)
+                }
             }
-            match self.firmware.instruct() {
-                StepEnd::Next => self.count(),
-                StepEnd::Memory => return Err(AllocError),
-                StepEnd::Trap(_) => return Ok(()),
-                StepEnd::Frames => return Ok(()),
-            }
+            None => None,
         }
-        Ok(())
     }
 }
 
@@ -57,12 +53,9 @@ pub fn begin(machine: &mut Machine, job: &Job) -> bool
     ensures { record { begins = result; state = machine.new } ≡ begun machine.old job.now }
 {
     match job {
-        Job::Start { handle, bound } => match machine.firmware.images.find(*handle) {
-            Some(image) => {
-                if image.started {
-                    return false;
-                }
-                machine.start(&image, *bound);
+        Job::Start { handle, bound } => match machine.firmware.fresh_entry(*handle) {
+            Some(entry) => {
+                machine.start(*handle, entry, *bound);
                 true
             }
             None => false,
@@ -76,7 +69,10 @@ fn next_said(alloc: Global, machine: &mut Machine) -> Result<Happened, AllocErro
 {
     machine.whole();
     for step in machine.steps..machine.bound {
-        machine.run_plain()?;
+        match machine.run_plain(machine.bound) {
+            Ok(_) => {}
+            Err(_) => return Err(AllocError),
+        }
         machine.whole();
         match step_machine(alloc, machine) {
             Ok(Happened::Turned) => {}

@@ -10,11 +10,12 @@ mod job;
 mod loading;
 mod machine;
 mod opening;
+mod plain;
 mod service;
 mod serving;
 mod turn;
 
-pub use happened::{Halt, Happened};
+pub use happened::{Halt, Happened, JobEnd};
 pub use job::{Job, begin, run_machine};
 pub use loading::load;
 pub use machine::{Machine, Setup};

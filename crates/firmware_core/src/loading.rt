@@ -9,21 +9,22 @@ use crate::firmware::Firmware;
 use crate::machine::Machine;
 use address_view::CodePage;
 use image_services::{LoadRefusal, load_image};
+use protocol_db::Installed;
 use std::alloc::{AllocError, Global};
 use uh_base::EfiStatus;
 
 impl Firmware {
-    /// Loads the image of a file of at most 4 MiB without a parent, and gives its handle.
-    fn load(&mut self, alloc: Global, file: &[u8]) -> Result<u64, LoadRefusal>
+    /// Loads the image of a file of at most 4 MiB without a parent.
+    fn load(&mut self, alloc: Global, file: &[u8]) -> Result<Installed, LoadRefusal>
         requires { length file.now ≤ 0x400000 }
-        ensures gives { LoadGives result (load_of self.old.runtime.layout (store_of self.old) self.old.handles file.now 0) (store_of self.old) (store_of self.new) self.old.handles self.new.handles }
-        ensures rest { self.new ≡ record (with_store self.old (store_of self.new)) { handles = self.new.handles } }
+        ensures gives { LoadGives result (load_of self.old.runtime.layout (store_of self.old) file.now 0) (store_of self.old) (store_of self.new) }
+        ensures rest { self.new ≡ with_store self.old (store_of self.new) }
     {
         self.whole();
         self.code = CodePage::none();
         let images = &mut self.images;
         let pool = &mut self.pool;
-        let made = &mut self.handles;
+        let protocols = &mut self.protocols;
         let runtime = &mut self.runtime;
         load_image(
             alloc,
@@ -32,7 +33,7 @@ impl Firmware {
             &mut runtime.memory,
             &mut runtime.pages,
             pool,
-            made,
+            protocols,
             file,
             0,
         )
@@ -61,8 +62,8 @@ pub fn load(
     ensures { IfOk result (λ r. record { status = r.0.0; handle = r.1; base = r.2; pages = r.3; state = machine.new } ≡ loaded machine.old file.now) }
 {
     match machine.firmware.load(alloc, file) {
-        Ok(handle) => match machine.firmware.images.find(handle) {
-            Some(image) => Ok((EfiStatus::SUCCESS, handle, image.base, image.pages)),
+        Ok(loaded) => match machine.firmware.images.find(loaded.handle) {
+            Some(image) => Ok((EfiStatus::SUCCESS, loaded.handle, image.base, image.pages)),
             None => Ok((EfiStatus::SUCCESS, 0, 0, 0)),
         },
         Err(LoadRefusal::Memory) => Err(AllocError),

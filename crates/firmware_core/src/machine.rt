@@ -9,14 +9,19 @@ use crate::firmware::Firmware;
 use page_alloc::PageMap;
 use std::alloc::{AllocError, Global};
 use std::marker::Model;
+use time_service::Clock;
+use variable_store::Variables;
 
 /// What a machine begins with.
-#[derive(Clone, Copy, Debug, PartialEq, Eq, Drop)]
+#[derive(Drop)]
 pub struct Setup {
     /// The address of the first byte of RAM.
     pub base: u64,
     /// How many pages of 4,096 bytes RAM has.
     pub pages: u32,
+    /// The time at opening.
+    pub clock: Clock,
+    pub variables: Variables,
 }
 
 /// The firmware with its hart, and the job under way.
@@ -43,11 +48,12 @@ impl Model for Machine {
 impl Machine {
     /// The machine at opening. No job is under way.
     pub fn new(alloc: Global, setup: Setup) -> Result<Machine, AllocError>
-        requires { IsRam setup.base setup.pages }
-        ensures { IfOk result (λ m. m ≡ record { firmware = opened setup.base setup.pages; steps = 0; bound = 0 }) }
+        requires ram { IsRam setup.base setup.pages }
+        requires clock { setup.clock.set_at ≡ 0 }
+        ensures { IfOk result (λ m. m ≡ record { firmware = opened setup.base setup.pages setup.clock setup.variables; steps = 0; bound = 0 }) }
     {
         Ok(Machine {
-            firmware: Firmware::new(alloc, setup.base, setup.pages)?,
+            firmware: Firmware::new(alloc, setup.base, setup.pages, setup.clock, setup.variables)?,
             steps: 0,
             bound: 0,
         })

@@ -4,13 +4,15 @@ ghost use Rattle.page_alloc.specs.Layout.{IsRam, IsLayout};
 ghost use Rattle.system_tables.specs.Memory.{IsRamOf};
 ghost use Rattle.virtual_map.specs.States.{Belongs};
 ghost use Rattle.firmware_core.specs.Parts.{Spread};
-ghost use Rattle.firmware_core.specs.Opening.{runtime_at, with_firmware};
+ghost use Rattle.firmware_core.specs.Opening.{runtime_at, with_firmware, with_console};
 
 use address_view::View;
 use guest_memory::{GuestMemory, Rights};
 use page_alloc::{Layout, PageMap, opening_covers_ram};
+use protocol_db::{ProtocolRefusal, Protocols};
 use std::alloc::{AllocError, Global};
 use system_tables::build_tables;
+use uh_base::Guid;
 use virtual_map::RuntimeState;
 
 /// The right to read alone.
@@ -18,6 +20,14 @@ const READABLE: Rights = Rights {
     read: true,
     write: false,
     exec: false,
+};
+
+/// EFI_SIMPLE_TEXT_OUTPUT_PROTOCOL_GUID (UEFI 2.10, 12.4.1).
+const TEXT_OUTPUT_PROTOCOL: Guid = Guid {
+    d1: 0x387477c2,
+    d2: 0x69c7,
+    d3: 0x11d2,
+    d4: 0x8e3900a0c969723b,
 };
 
 /// A law: where the places of a layout lie.
@@ -76,4 +86,18 @@ pub(crate) fn runtime_at(alloc: Global, base: u64, pages: u32) -> Result<Runtime
         pages: map,
         view,
     })
+}
+
+/// The handle of the console, alone.
+#[tactic(auto, unfolding(protocol_db::specs::Calls::installation, handle_db::specs::Calls::installation))]
+pub(crate) fn with_console(alloc: Global, layout: &Layout) -> Result<Protocols, AllocError>
+    requires { IsLayout layout.now }
+    ensures { IfOk result (λ protocols. protocols ≡ with_console layout.now) }
+{
+    layout_spreads(layout);
+    let mut protocols = Protocols::new(alloc);
+    match protocols.install(None, TEXT_OUTPUT_PROTOCOL, layout.boot + 0x200) {
+        Ok(_) => Ok(protocols),
+        Err(_) => Err(AllocError),
+    }
 }

@@ -2,7 +2,7 @@
 ghost use Rattle.std.specs.Prelude.{◌≡◌};
 ghost use Rattle.firmware_core.specs.Services.{service_of};
 
-/// The services that are built.
+/// The services on memory, those of the console, and the return.
 #[derive(Clone, Copy, Debug, PartialEq, Eq, Drop)]
 pub enum Service {
     AllocatePages,
@@ -26,7 +26,7 @@ pub enum Service {
 
 /// The service of a slot.
 #[tactic(auto, unfolding(crate::specs::Services::service_of))]
-pub(crate) fn service_of(slot: u64) -> Service
+pub(crate) fn service_of(slot: u8) -> Service
     ensures { result ≡ service_of slot }
 {
     match slot {

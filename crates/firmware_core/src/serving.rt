@@ -1,21 +1,27 @@
 //! Each service of the firmware, over the parts that it reads and changes.
-ghost use Rattle.std.specs.Prelude.{◌≡◌, ◌<◌, IfOk};
+ghost use Rattle.std.specs.Prelude.{◌≡◌, ◌<◌, true, is_some, IfOk};
 ghost use Rattle.guest_call.specs.declared.answer.Answer.{Answer};
 ghost use Rattle.console_services.specs.Views.{reply_of};
-ghost use Rattle.firmware_core.specs.Services.{conclusion_of, replied, given, at_allocate_pages, at_free_pages, at_get_memory_map, at_allocate_pool, at_free_pool, at_calculate_crc32, at_copy_mem, at_set_mem, at_output_string, at_test_string, at_set_mode, stays, left_by, returned, at_return, serve};
+ghost use Rattle.protocol_services.specs.Services.{is_protocol_slot};
+ghost use Rattle.runtime_services.specs.Slots.{service_of as runtime_service_of};
+ghost use Rattle.image_services.specs.Images.{find_image};
+ghost use Rattle.firmware_core.specs.Services.{conclusion_of, replied, given, at_allocate_pages, at_free_pages, at_get_memory_map, at_allocate_pool, at_free_pool, at_calculate_crc32, at_copy_mem, at_set_mem, at_output_string, at_test_string, at_set_mode, served, at_protocols, at_runtime, stays, goes, without_image, returned, at_return, serve, serve_slot};
 
 use crate::conclusion::Conclusion;
 use crate::firmware::Firmware;
-use crate::service::Service;
+use crate::service::{Service, service_of};
 use address_view::CodePage;
 use console_services::{Reply, output_string, set_mode, test_string};
 use guest_call::{Answer, argument};
-use image_services::{Loaded, discard_image};
+use image_services::discard_image;
 use memory_services::{
     allocate_pages, allocate_pool, calculate_crc32, copy_mem, free_pages, free_pool,
     get_memory_map, set_mem,
 };
+use protocol_services::{is_protocol_slot, serve_protocol};
 use record_text::Cause;
+use runtime_services::{RuntimeService, serve_runtime};
+use service_answer::Served;
 use std::alloc::{AllocError, Global};
 use uh_base::EfiStatus;
 
@@ -36,6 +42,17 @@ fn replied(reply: Reply) -> Conclusion
     match reply {
         Reply::Answers(a0) => Conclusion::Answers(a0),
         Reply::Prints(text, a0) => Conclusion::Prints(text, a0),
+    }
+}
+
+/// What an answer of a service on handles comes to.
+fn served(answer: Served) -> Conclusion
+    ensures { result ≡ served answer }
+{
+    if answer.frames {
+        Conclusion::Halts(Cause::Frames)
+    } else {
+        Conclusion::Answers(answer.value)
     }
 }
 
@@ -196,26 +213,86 @@ impl Firmware {
         Conclusion::Answers(set_mode(self.given(1)).0)
     }
 
-    /// Unloads an image that returned with a status, unless it stays.
-    fn leave(&mut self, status: u64, image: Option<Loaded>)
-        ensures { self.new ≡ left_by self.old status image }
+    #[tactic(auto, unfolding(crate::specs::Services::at_protocols))]
+    fn at_protocols(&mut self, alloc: Global, slot: u8) -> Result<Conclusion, AllocError>
+        requires { is_protocol_slot slot ≡ true }
+        ensures { IfOk result (λ c. record { conclusion = c; firmware = self.new } ≡ at_protocols slot self.old) }
     {
-        if let Some(image) = image {
-            if !stays(image.subsystem, status) {
-                self.whole();
-                self.code = CodePage::none();
-                let images = &mut self.images;
-                let pool = &mut self.pool;
-                let runtime = &mut self.runtime;
-                discard_image(
-                    images,
-                    &runtime.layout,
-                    &mut runtime.memory,
-                    &mut runtime.pages,
-                    pool,
-                    image.handle,
-                );
-            }
+        self.whole();
+        self.code = CodePage::none();
+        let regs = &self.regs;
+        let pool = &mut self.pool;
+        let protocols = &mut self.protocols;
+        let runtime = &mut self.runtime;
+        let answer = serve_protocol(
+            alloc,
+            slot,
+            regs,
+            &runtime.view,
+            &mut runtime.memory,
+            &mut runtime.pages,
+            pool,
+            protocols,
+        )?;
+        Ok(served(answer))
+    }
+
+    #[tactic(auto, unfolding(crate::specs::Services::at_runtime))]
+    fn at_runtime(&mut self, alloc: Global, slot: u8) -> Result<Conclusion, AllocError>
+        requires { is_some (runtime_service_of slot) ≡ true }
+        ensures { IfOk result (λ c. record { conclusion = c; firmware = self.new } ≡ at_runtime slot self.old) }
+    {
+        self.whole();
+        self.code = CodePage::none();
+        let regs = &self.regs;
+        let now = self.time;
+        let variables = &mut self.variables;
+        let clock = &mut self.clock;
+        let count = &mut self.count;
+        let runtime = &mut self.runtime;
+        let answer = serve_runtime(
+            alloc,
+            slot,
+            regs,
+            &runtime.view,
+            &mut runtime.memory,
+            variables,
+            clock,
+            count,
+            now,
+            false,
+        )?;
+        Ok(served(answer))
+    }
+
+    /// Unloads an image.
+    fn unload(&mut self, handle: u64)
+        ensures { self.new ≡ without_image self.old handle }
+    {
+        self.whole();
+        self.code = CodePage::none();
+        let images = &mut self.images;
+        let pool = &mut self.pool;
+        let protocols = &mut self.protocols;
+        let runtime = &mut self.runtime;
+        discard_image(
+            images,
+            &runtime.layout,
+            &mut runtime.memory,
+            &mut runtime.pages,
+            pool,
+            protocols,
+            handle,
+        );
+    }
+
+    /// Whether an image is unloaded when it returns with a status.
+    fn goes(&self, status: u64, handle: u64) -> bool
+        ensures { result ≡ goes status (find_image self.now.images handle) }
+    {
+        match self.images.find(handle) {
+            Some(image) => !stays(image.subsystem, status),
+            None => false,
         }
     }
 
@@ -224,9 +301,11 @@ impl Firmware {
         ensures { self.new ≡ returned self.old status self.old.running }
     {
         if let Some(handle) = self.running {
+            let goes = self.goes(status, handle);
             self.running = None;
-            let image = self.images.find(handle);
-            self.leave(status, image);
+            if goes {
+                self.unload(handle);
+            }
         }
     }
 
@@ -239,13 +318,23 @@ impl Firmware {
         Conclusion::Leaves(status)
     }
 
-    /// A service of the firmware.
+    /// The service of a slot.
+    #[tactic(auto, unfolding(crate::specs::Services::serve_slot))]
+    pub(crate) fn serve_slot(&mut self, alloc: Global, slot: u8) -> Result<Conclusion, AllocError>
+        ensures { IfOk result (λ c. record { conclusion = c; firmware = self.new } ≡ serve_slot slot self.old) }
+    {
+        if is_protocol_slot(slot) {
+            self.at_protocols(alloc, slot)
+        } else if RuntimeService::of_slot(slot).is_some() {
+            self.at_runtime(alloc, slot)
+        } else {
+            self.serve(alloc, service_of(slot))
+        }
+    }
+
+    /// A service on memory, of the console, or the return.
     #[tactic(auto, unfolding(crate::specs::Services::serve))]
-    pub(crate) fn serve(
-        &mut self,
-        alloc: Global,
-        service: Service,
-    ) -> Result<Conclusion, AllocError>
+    fn serve(&mut self, alloc: Global, service: Service) -> Result<Conclusion, AllocError>
         ensures { IfOk result (λ c. record { conclusion = c; firmware = self.new } ≡ serve service self.old) }
     {
         match service {

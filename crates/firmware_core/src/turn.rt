@@ -1,14 +1,11 @@
 //! One turn of the machine.
-ghost use Rattle.std.specs.Prelude.{◌≡◌, ◌<◌, ◌≢◌, IfOk};
-ghost use Rattle.rv_step.specs.declared.ends.StepEnd.TheVariants as ends;
-ghost use Rattle.firmware_core.specs.Turns.{turn_of, service_turn, instruction_turn, comes_to, carried_out, trapped, halted, counted, answered};
+ghost use Rattle.std.specs.Prelude.{◌≡◌, ◌<◌, None, IfOk};
+ghost use Rattle.firmware_core.specs.Turns.{turn_of, slot_at, service_turn, instruction_turn, comes_to, halted, counted};
 
 use crate::conclusion::Conclusion;
 use crate::happened::{Halt, Happened};
 use crate::machine::Machine;
-use crate::service::service_of;
 use record_text::{Cause, Line};
-use rv_step::{Access, StepEnd, Trap};
 use std::alloc::{AllocError, Global};
 
 /// The end of a run.
@@ -16,22 +13,6 @@ fn halted(cause: Cause, pc: u64, at: u64) -> Happened
     ensures { result ≡ halted cause pc at }
 {
     Happened::Halted(Halt { cause, pc, at })
-}
-
-/// How a trap at a program counter ends a run.
-fn trapped(trap: Trap, pc: u64) -> Happened
-    ensures { result ≡ trapped trap pc }
-{
-    match trap {
-        Trap::Illegal => halted(Cause::Illegal, pc, 0),
-        Trap::Ebreak => halted(Cause::Ebreak, pc, 0),
-        Trap::Ecall => halted(Cause::Ecall, pc, 0),
-        Trap::Fault { at, kind } => match kind {
-            Access::Load => halted(Cause::Load, pc, at),
-            Access::Store => halted(Cause::Store, pc, at),
-            Access::Fetch => halted(Cause::Fetch, pc, at),
-        },
-    }
 }
 
 impl Machine {
@@ -74,30 +55,25 @@ impl Machine {
 
     /// The service of a slot.
     #[tactic(auto, unfolding(crate::specs::Turns::service_turn))]
-    fn service_turn(&mut self, alloc: Global, slot: u64) -> Result<Happened, AllocError>
+    fn service_turn(&mut self, alloc: Global, slot: u8) -> Result<Happened, AllocError>
         requires { self.old.steps < self.old.bound }
         ensures { IfOk result (λ h. record { happened = h; state = self.new } ≡ service_turn slot self.old) }
     {
         let pc = self.firmware.pc();
-        let conclusion = self.firmware.serve(alloc, service_of(slot))?;
+        let conclusion = self.firmware.serve_slot(alloc, slot)?;
         Ok(self.conclude(pc, conclusion))
     }
 
     /// The instruction at the program counter.
-    #[tactic(auto, unfolding(crate::specs::Turns::instruction_turn))]
     fn instruction_turn(&mut self) -> Result<Happened, AllocError>
-        requires { self.old.steps < self.old.bound }
+        requires bound { self.old.steps < self.old.bound }
+        requires slot { slot_at self.old.firmware ≡ None }
         ensures { IfOk result (λ h. record { happened = h; state = self.new } ≡ instruction_turn self.old) }
     {
-        let pc = self.firmware.pc();
-        match self.firmware.instruct() {
-            StepEnd::Next => {
-                self.count();
-                Ok(Happened::Turned)
-            }
-            StepEnd::Trap(trap) => Ok(trapped(trap, pc)),
-            StepEnd::Frames => Ok(halted(Cause::Frames, pc, 0)),
-            StepEnd::Memory => Err(AllocError),
+        match self.run_plain(self.steps + 1) {
+            Ok(None) => Ok(Happened::Turned),
+            Ok(Some(halt)) => Ok(Happened::Halted(halt)),
+            Err(_) => Err(AllocError),
         }
     }
 }

@@ -2,7 +2,7 @@
 use Rattle.std.proofs.Common.{◌≡◌, ℕ, List, [], ◌∷◌, ◌++◌, Option, refl, sym, ap, subst, ◌∙◌, append_assoc, append-nil}
 use Rattle.record_text.specs.declared.line.Line.{Line}
 use Rattle.uh_base.specs.Told.{grown, GrownByPart}
-use Rattle.firmware_core.specs.declared.happened.Happened.{Happened}
+use Rattle.firmware_core.specs.declared.happened.JobEnd.{JobEnd}
 use Rattle.firmware_core.specs.declared.happened.Happened.TheVariants.{Said}
 use Rattle.firmware_core.specs.Turns.{State}
 use Rattle.firmware_core.specs.Jobs.{Job, job_of, Says}
@@ -43,7 +43,7 @@ module _ (whole : Job) (s t : State) (old now : Option (List ℕ)) (so_far : SoF
         part_more old now new so_far.before (line ∷ []) (job_of t).lines whole.lines so_far.put (ap (λ (j : Job). j.lines) longer ∙ append_assoc so_far.before (line ∷ []) (job_of t).lines)
         (subst (λ (bytes : List ℕ). GrownByPart now bytes new) (one_line line) part)
 
-  module _ (end : Happened) (last : job_of s ≡ record { lines = []; end = end; state = t }) where
+  module _ (end : JobEnd) (last : job_of s ≡ record { lines = []; end = end; state = t }) where
     pub ends_here : Ended whole end t
     ends_here =
         let w = so_far.same ∙ ap (behind so_far.before) last in

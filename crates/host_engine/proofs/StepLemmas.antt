@@ -6,7 +6,7 @@ use Rattle.record_text.specs.declared.line.Line.{Line}
 use Rattle.record_text.specs.declared.line.Line.TheVariants as lines
 use Rattle.host_script.specs.declared.script.Step.{Step}
 use Rattle.uh_base.specs.Told.{grown, GrownByPart}
-use Rattle.firmware_core.specs.declared.happened.Happened.{Happened}
+use Rattle.firmware_core.specs.declared.happened.JobEnd.{JobEnd}
 use Rattle.firmware_core.specs.Turns.{State}
 use Rattle.host_engine.specs.Inputs.{Inputs}
 use Rattle.host_script.specs.Plain.{Plain}
@@ -24,9 +24,9 @@ use Rattle.host_engine.proofs.LineLemmas.{grown-nil, bytes_of-last, put_more, pa
 job_text : (name handles : List ℕ) (job : Job) → bytes_of job.lines ++ line_bytes (last_line name job.end) ≡ bytes_of (job_over name handles job).lines
 job_text name handles job = sym (bytes_of-last job.lines (last_line name job.end))
 
-module _ (name handles : List ℕ) (job : Job) (end : Happened) (state : State) (ended : Ended job end state) where
+module _ (name handles : List ℕ) (job : Job) (end : JobEnd) (state : State) (ended : Ended job end state) where
   ended_text : bytes_of job.lines ++ line_bytes (last_line name end) ≡ bytes_of (job_over name handles job).lines
-  ended_text = ap (λ (e : Happened). bytes_of job.lines ++ line_bytes (last_line name e)) ended.is_end ∙ job_text name handles job
+  ended_text = ap (λ (e : JobEnd). bytes_of job.lines ++ line_bytes (last_line name e)) ended.is_end ∙ job_text name handles job
 
   pub job_put : {X : Type 0} (r : Result X Stop) (old now new : Option (List ℕ)) (f g h : ℕ) → now ≡ grown old (bytes_of job.lines) → f ≤ g → Puts r (line_bytes (last_line name end)) now g new h → Puts r (bytes_of (job_over name handles job).lines) old f new h
   job_put r old now new f g h put le puts = both r (bytes_of job.lines) (line_bytes (last_line name end)) _ old now new f g h ended_text put le puts
@@ -36,7 +36,7 @@ job_stops X Y name handles job stop old new f h puts = first X Y stop (bytes_of 
 
 -- the same, where the run is told as another
 module _ (name : List ℕ) (x r : Running) (is : x ≡ r) where
-  pub finish_put : {X : Type 0} (answer : Result X Stop) (end : Happened) (state : State) → Ended (job_of x.machine) end state → (old now new : Option (List ℕ)) (f g h : ℕ) → now ≡ grown old (bytes_of (job_of x.machine).lines) → f ≤ g
+  pub finish_put : {X : Type 0} (answer : Result X Stop) (end : JobEnd) (state : State) → Ended (job_of x.machine) end state → (old now new : Option (List ℕ)) (f g h : ℕ) → now ≡ grown old (bytes_of (job_of x.machine).lines) → f ≤ g
       → Puts answer (line_bytes (last_line name end)) now g new h → Puts answer (bytes_of (job_over name r.handles (job_of r.machine)).lines) old f new h
   finish_put answer end state ended old now new f g h put le puts =
       subst (λ (y : Running). Puts answer (bytes_of (job_over name y.handles (job_of y.machine)).lines) old f new h) is (job_put name x.handles (job_of x.machine) end state ended answer old now new f g h put le puts)

@@ -5,7 +5,7 @@ use Rattle.record_text.specs.declared.line.Line.{Line}
 use Rattle.record_text.specs.Texts.{text_of}
 use Rattle.uh_base.specs.Counts.{Rose}
 use Rattle.uh_base.specs.Told.{grown, GrownByPart}
-use Rattle.firmware_core.specs.declared.happened.Happened.{Happened}
+use Rattle.firmware_core.specs.declared.happened.JobEnd.{JobEnd}
 use Rattle.firmware_core.specs.Jobs.{Job}
 use Rattle.firmware_core.specs.Turns.{State}
 use Rattle.host_engine.specs.declared.job.Stop.{Stop}
@@ -27,6 +27,6 @@ pub record Puts {X : Type 0} (result : Result X Stop) (text : List ℕ) (old : O
   pub never_falls : faults ≤ faults'
 
 -- A job has ended so.
-pub record Ended (whole : Job) (end : Happened) (state : State) : Type 0 where
+pub record Ended (whole : Job) (end : JobEnd) (state : State) : Type 0 where
   pub is_end : end ≡ whole.end
   pub is_state : state ≡ whole.state

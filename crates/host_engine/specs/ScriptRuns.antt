@@ -1,5 +1,5 @@
 -- The run of a script: the lines of its steps, in order.
-use Rattle.std.specs.Prelude.{◌≡◌, ℕ, List, [], ◌∷◌, ◌++◌, ◌==◌, length, map, replicate, slice_index_or, slice_set, Bool, true, false, Option, if◌then◌else◌}
+use Rattle.std.specs.Prelude.{◌≡◌, ℕ, List, [], ◌∷◌, ◌++◌, ◌==◌, length, map, replicate, slice_index_or, slice_set, Bool, true, false, Option, pos, if◌then◌else◌}
 use Rattle.std.specs.List.{position_or_len}
 use Rattle.std.specs.Str.{bytes_eq}
 use Rattle.uh_base.specs.Statuses.{invalid_parameter}
@@ -14,8 +14,10 @@ use Rattle.host_script.specs.declared.script.Step.TheVariants.{Load, Start, MemM
 use Rattle.page_alloc.specs.Pages.{PageList}
 use Rattle.memory_map.specs.declared.descriptor.Descriptor.{Descriptor}
 use Rattle.memory_map.specs.Map.{map_of}
-use Rattle.firmware_core.specs.declared.happened.Happened.{Happened}
-use Rattle.firmware_core.specs.declared.happened.Happened.TheVariants.{Turned, Said, Left, Halted}
+use Rattle.time_service.specs.declared.efi_time.EfiTime.{EfiTime}
+use Rattle.time_service.specs.Clocks.{set_to}
+use Rattle.firmware_core.specs.declared.happened.JobEnd.{JobEnd}
+use Rattle.firmware_core.specs.declared.happened.JobEnd.TheVariants.{Left, Halted}
 use Rattle.firmware_core.specs.declared.job.Job.TheVariants as jobs
 use Rattle.firmware_core.specs.Opening.{opened}
 use Rattle.firmware_core.specs.Turns.{State}
@@ -65,15 +67,11 @@ load_made name place file r = load_comes_to name place r.handles (loaded r.machi
 -- ---- start
 
 -- the last line of a job
-abbrev pub last_line : List ℕ → Happened → Line
-last_line name Turned = lines.End
-last_line name (Said line) = line
+abbrev pub last_line : List ℕ → JobEnd → Line
 last_line name (Left value steps) = lines.Start name value steps
 last_line name (Halted halt) = lines.Halt halt.cause halt.pc halt.at
 
-abbrev pub is_halt : Happened → Bool
-is_halt Turned = false
-is_halt (Said line) = false
+abbrev pub is_halt : JobEnd → Bool
 is_halt (Left value steps) = false
 is_halt (Halted halt) = true
 
@@ -125,9 +123,16 @@ unfoldable pub run_from : Plain → Inputs → Running → List Step → Run
 run_from script inputs r [] = record { lines = lines.End ∷ []; halted = false }
 run_from script inputs r (step ∷ steps) = then_run (step_made script inputs step r) (run_from script inputs (step_made script inputs step r).running steps)
 
--- RAM of so many pages from an address on, and none of so many images loaded
+-- The clock begins at 2024-01-01T00:00:00, in no time zone.
+abbrev pub opening_time : EfiTime
+opening_time = record { year = 2024; month = 1; day = 1; hour = 0; minute = 0; second = 0; nanosecond = 0; time_zone = pos 2047; daylight = 0 }
+
+-- RAM of so many pages from an address on, no variable, and none of so many images loaded
 abbrev pub at_opening : ℕ → ℕ → ℕ → Running
-at_opening ram_base ram_pages images = record { machine = record { firmware = opened ram_base ram_pages; steps = 0; bound = 0 }; handles = replicate images 0 }
+at_opening ram_base ram_pages images = record {
+  machine = record { firmware = opened ram_base ram_pages (set_to 0 opening_time) []; steps = 0; bound = 0 };
+  handles = replicate images 0;
+}
 
 -- the run of a script over the files of its images
 unfoldable pub run_of : Plain → Inputs → Run

@@ -3,7 +3,7 @@ ghost use Rattle.std.specs.Prelude.{◌≡◌, IfOk};
 ghost use Rattle.firmware_core.specs.Jobs.{job_of};
 ghost use Rattle.host_engine.specs.Jobs.{line_bytes, bytes_of, Ended, Puts};
 
-use firmware_core::{Happened, Machine, run_machine};
+use firmware_core::{Happened, JobEnd, Machine, run_machine};
 use record_text::{Line, line_text};
 use std::alloc::Global;
 use uh_base::Sink;
@@ -42,7 +42,7 @@ pub fn say<O: Sink>(alloc: Global, line: Line, out: &mut O) -> Result<(), Stop>
 }
 
 /// Makes turns until the job under way ends, and puts their lines. Gives its end.
-pub fn run_job<O: Sink>(alloc: Global, machine: &mut Machine, out: &mut O) -> Result<Happened, Stop>
+pub fn run_job<O: Sink>(alloc: Global, machine: &mut Machine, out: &mut O) -> Result<JobEnd, Stop>
     ensures ended { IfOk result (λ end. Ended (job_of machine.old) end machine.new) }
     ensures puts { Puts result (bytes_of (job_of machine.old).lines) (O.written out.old) (O.faults out.old) (O.written out.new) (O.faults out.new) }
 {
@@ -53,8 +53,8 @@ pub fn run_job<O: Sink>(alloc: Global, machine: &mut Machine, out: &mut O) -> Re
                 Ok(()) => {}
                 Err(stop) => return Err(stop),
             },
-            Ok(Happened::Left { value, steps }) => return Ok(Happened::Left { value, steps }),
-            Ok(Happened::Halted(halt)) => return Ok(Happened::Halted(halt)),
+            Ok(Happened::Left { value, steps }) => return Ok(JobEnd::Left { value, steps }),
+            Ok(Happened::Halted(halt)) => return Ok(JobEnd::Halted(halt)),
             Err(_) => return Err(Stop::Memory),
         }
     }

@@ -3,24 +3,26 @@ ghost use Rattle.std.specs.Prelude.{◌≡◌, ◌<◌, ◌∷◌, [], IfOk, OnE
 ghost use Rattle.record_text.specs.declared.line.Line.TheVariants as lines;
 ghost use Rattle.memory_map.specs.Map.{map_of};
 ghost use Rattle.page_alloc.specs.Layout.{IsRam};
-ghost use Rattle.firmware_core.specs.declared.happened.Happened.TheVariants as happens;
 ghost use Rattle.firmware_core.specs.Jobs.{job_of};
 ghost use Rattle.host_script.specs.Script.{is_ram_base};
 ghost use Rattle.host_script.specs.Forms.{IsScript, IsStep};
 ghost use Rattle.host_engine.specs.Jobs.{line_bytes, bytes_of, Puts};
-ghost use Rattle.host_engine.specs.ScriptRuns.{place_of, file_at, with_handle, handle_at, load_made, last_line, is_halt, job_over, start_made, row_of, map_lines, step_made, run_of, at_opening, Made, RunGives};
+ghost use Rattle.time_service.specs.Clocks.{set_to};
+ghost use Rattle.host_engine.specs.ScriptRuns.{place_of, file_at, with_handle, handle_at, load_made, last_line, is_halt, job_over, start_made, row_of, map_lines, opening_time, step_made, run_of, at_opening, Made, RunGives};
 
 use crate::code::ImageFile;
 use crate::inputs::Inputs;
 use crate::job::{Stop, put_line, run_job, say};
-use firmware_core::{Halt, Happened, Job, Machine, Setup, begin, load};
+use firmware_core::{Halt, Job, JobEnd, Machine, Setup, begin, load};
 use host_script::{ImageSpec, Script, Step};
 use memory_map::{Descriptor, MapCursor};
 use page_alloc::PageMap;
 use record_text::Line;
 use std::alloc::{AllocError, Global};
 use std::marker::Model;
+use time_service::{Clock, texts_set_clocks};
 use uh_base::{EfiStatus, Sink, Text};
+use variable_store::Variables;
 
 /// The machine of a run, and for each image of the script the handle of the one that was loaded last, 0 where none was.
 #[derive(Drop)]
@@ -167,14 +169,12 @@ fn load_image<O: Sink>(
 }
 
 /// Whether a job ends with a halt.
-fn is_halt(end: &Happened) -> bool
+fn is_halt(end: &JobEnd) -> bool
     ensures { result ≡ is_halt end.now }
 {
     match end {
-        Happened::Turned => false,
-        Happened::Said(_) => false,
-        Happened::Left { .. } => false,
-        Happened::Halted(_) => true,
+        JobEnd::Left { .. } => false,
+        JobEnd::Halted(_) => true,
     }
 }
 
@@ -190,16 +190,14 @@ fn halt_line(halt: Halt) -> Line
 }
 
 /// Puts the last line of a job; true where it is a halt.
-fn put_last<O: Sink>(alloc: Global, name: &Text, end: Happened, out: &mut O) -> Result<bool, Stop>
+fn put_last<O: Sink>(alloc: Global, name: &Text, end: JobEnd, out: &mut O) -> Result<bool, Stop>
     ensures halted { IfOk result (λ halted. halted ≡ is_halt end) }
     ensures puts { Puts result (line_bytes (last_line name.now end)) (O.written out.old) (O.faults out.old) (O.written out.new) (O.faults out.new) }
 {
     let halts = is_halt(&end);
     let put = match end {
-        Happened::Turned => say(alloc, Line::End, out),
-        Happened::Said(line) => say(alloc, line, out),
-        Happened::Left { value, steps } => put_start(alloc, name, value, steps, out),
-        Happened::Halted(halt) => say(alloc, halt_line(halt), out),
+        JobEnd::Left { value, steps } => put_start(alloc, name, value, steps, out),
+        JobEnd::Halted(halt) => say(alloc, halt_line(halt), out),
     };
     match put {
         Ok(()) => Ok(halts),
@@ -327,6 +325,18 @@ fn make_step<O: Sink>(
     }
 }
 
+/// The clock at opening.
+fn opening_clock() -> Clock
+    ensures clock { result ≡ set_to 0 opening_time }
+    ensures set_at { result.set_at ≡ 0 }
+{
+    texts_set_clocks();
+    match Clock::at("2024-01-01T00:00:00") {
+        Some(clock) => clock,
+        None => unreachable!(),
+    }
+}
+
 /// The run at opening.
 fn open(alloc: Global, ram_base: u64, ram_pages: u32, images: usize) -> Result<Running, AllocError>
     requires { IsRam ram_base ram_pages }
@@ -337,6 +347,8 @@ fn open(alloc: Global, ram_base: u64, ram_pages: u32, images: usize) -> Result<R
     let setup = Setup {
         base: ram_base,
         pages: ram_pages,
+        clock: opening_clock(),
+        variables: Variables::new(alloc),
     };
     Ok(Running {
         machine: Machine::new(alloc, setup)?,

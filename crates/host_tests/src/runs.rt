@@ -7,9 +7,9 @@ use uh_base::{MemFiles, MemSink};
 
 /// What a run answered and put.
 #[derive(Drop)]
-struct Answered {
-    status: Status,
-    out: MemSink,
+pub(crate) struct Answered {
+    pub(crate) status: Status,
+    pub(crate) out: MemSink,
     err: MemSink,
 }
 
@@ -48,7 +48,12 @@ fn image(alloc: Global, code: &[u8]) -> Result<Vec<u8>, Fail> {
 }
 
 /// Runs the script file `S` over one image file, `app.efi`, where the puts of the given numbers fail.
-fn ran(alloc: Global, script: &[u8], file: &[u8], fail: &[u32]) -> Result<Answered, Fail> {
+pub(crate) fn ran(
+    alloc: Global,
+    script: &[u8],
+    file: &[u8],
+    fail: &[u32],
+) -> Result<Answered, Fail> {
     let mut files = MemFiles::new(alloc, Vec::new(alloc));
     files.add(alloc, "S", script)?;
     files.add(alloc, "app.efi", file)?;

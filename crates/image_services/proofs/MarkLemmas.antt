@@ -1,6 +1,6 @@
 -- Marks of pages.
 use Rattle.std.proofs.Common.{◌≡◌, ℕ, zero, suc, ◌+◌, ◌-◌, ◌<◌, ◌≤◌, Bool, true, false, cond, List, [], ◌∷◌, ◌++◌, length, get_or, take, drop, replicate, refl, sym, ap, ◌∙◌, arith, length-append, length-drop}
-use Rattle.std.specs.Prelude.{◌&&◌, nat_le, nat_lt, slice_get, Result, Ok, Err, OnErr}
+use Rattle.std.specs.Prelude.{◌&&◌, nat_le, nat_lt, slice_get}
 use Rattle.std.proofs.lemmas.Bool.Decides.{nat_tests}
 use Rattle.std.proofs.lemmas.List.{length-replicate, length-take, take-append-drop, places}
 use borrow.Rule.Slice.PartMut.{put_mid}
@@ -89,9 +89,9 @@ besides old mid new page count whole inside e h =
       kept = λ k t. h.kept k (ap (λ (m : Pages). is_touched m k) e ∙ kept_filled old.touched page count k (omega arith) t);
     }
 
-pub besides_by : {X E : Type 0} (r : Result X E) (old mid new : Pages) (page count : ℕ) → Whole old → page + count ≤ old.pages → mid ≡ reserved old page count → OnErr r (TouchedBesides mid new) → OnErr r (TouchedBesides old new)
-besides_by (Ok x) old mid new page count whole inside e h = tt
-besides_by (Err end) old mid new page count whole inside e h = besides old mid new page count whole inside e h
+-- and so did a reserve alone
+pub reserved_besides : (old new : Pages) (page count : ℕ) → Whole old → page + count ≤ old.pages → new ≡ reserved old page count → TouchedBesides old new
+reserved_besides old new page count whole inside e = besides old new new page count whole inside e (record { rest = refl; kept = λ k t. t })
 
 -- ---- the marks of a block's page and of an image's pages
 

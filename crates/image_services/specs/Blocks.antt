@@ -1,6 +1,11 @@
 -- The block of a loaded image: EFI_LOADED_IMAGE_PROTOCOL (UEFI 2.10, 9.1), in 96 bytes of the pool.
 use Rattle.std.specs.Prelude.{ℕ, ◌+◌, ◌-◌, ◌*◌, List, ◌++◌}
 use Rattle.std.specs.Int.{w32, w64, to_le_bytes}
+use Rattle.uh_base.specs.declared.guid.Guid.{Guid}
+
+-- EFI_LOADED_IMAGE_PROTOCOL_GUID, 5b1b31a1-9562-11d2-8e3f-00a0c969723b (UEFI 2.10, 9.1.1)
+abbrev pub loaded_image_protocol : Guid
+loaded_image_protocol = record { d1 = 0x5b1b31a1; d2 = 0x9562; d3 = 0x11d2; d4 = 0x8e3f00a0c969723b }
 
 abbrev pub block_size : ℕ
 block_size = 96

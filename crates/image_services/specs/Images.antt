@@ -1,15 +1,24 @@
 -- The images that are loaded, in order of loading.
-use Rattle.std.specs.Prelude.{ℕ, ◌*◌, ◌==◌, not, Bool, true, List, Option, find, map, if◌then◌else◌}
+use Rattle.std.specs.Prelude.{ℕ, ◌==◌, not, Bool, true, List, Option, find, map, if◌then◌else◌}
 use Rattle.std.specs.List.{filter}
-use Rattle.image_services.specs.declared.images.Loaded.{Loaded}
+use Rattle.base_reloc.specs.declared.site.Site.{Site}
+
+-- An image in memory: its handle, the address of its first byte, how many pages it has, its subsystem, the addresses of its
+-- entry point and of its block, whether it was started, and what moved with it, with the words there as the load left them.
+pub record Loaded : Type 0 where
+  pub handle : ℕ
+  pub base : ℕ
+  pub pages : ℕ
+  pub subsystem : ℕ
+  pub entry : ℕ
+  pub block : ℕ
+  pub started : Bool
+  pub sites : List Site
+  pub words : List ℕ
 
 -- At most so many images are loaded at a time.
 abbrev pub most_images : ℕ
 most_images = 16
-
--- handles are multiples of 16, in order of making; 2^60 - 1 are made in all
-abbrev pub handle_of : ℕ → ℕ
-handle_of made = 16 * made
 
 abbrev pub has_handle : ℕ → Loaded → Bool
 has_handle handle image = image.handle == handle

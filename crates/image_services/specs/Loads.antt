@@ -1,5 +1,5 @@
 -- How an image file is loaded (UEFI 2.10, 7.4: LoadImage).
-use Rattle.std.specs.Prelude.{ℕ, ◌+◌, ◌-◌, ◌*◌, ◌^◌, nat_lt, Bool, false, List, [], ◌∷◌, ◌++◌, length, Option, Some, None, Result, Ok, Err, if◌then◌else◌}
+use Rattle.std.specs.Prelude.{ℕ, ◌+◌, ◌-◌, ◌*◌, nat_lt, Bool, false, List, [], ◌∷◌, ◌++◌, length, Option, Some, None, Result, Ok, Err, if◌then◌else◌}
 use Rattle.uh_base.specs.Answers.{◌>>=◌}
 use Rattle.uh_base.specs.Limits.{frame_limit}
 use Rattle.guest_memory.specs.Lists.{count_true}
@@ -14,18 +14,19 @@ use Rattle.pool_alloc.specs.declared.refusal.PoolRefusal.{PoolRefusal}
 use Rattle.pool_alloc.specs.declared.span.PageSpan.{PageSpan}
 use Rattle.pool_alloc.specs.Pool.{BlockPage}
 use Rattle.pool_alloc.specs.Calls.{Done, pool_allocation, pages_allocated}
+use Rattle.protocol_db.specs.declared.refusal.ProtocolRefusal.{ProtocolRefusal}
+use Rattle.protocol_db.specs.Calls.{Done as ProtocolsDone, Installation, installation}
 use Rattle.pe_image.specs.declared.fault.PeFault.{PeFault}
 use Rattle.pe_image.specs.ImageOf.{Fields, image_of}
 use Rattle.base_reloc.specs.declared.fault.RelocFault.{RelocFault}
 use Rattle.base_reloc.specs.declared.site.Site.{Site}
 use Rattle.base_reloc.specs.Kept.{sites_in}
-use Rattle.image_services.specs.declared.images.Loaded.{Loaded}
 use Rattle.image_services.specs.declared.refusal.LoadRefusal.{LoadRefusal}
 use Rattle.image_services.specs.declared.refusal.LoadRefusal.TheVariants as refusals
-use Rattle.image_services.specs.Images.{most_images, handle_of}
+use Rattle.image_services.specs.Images.{Loaded, most_images}
 use Rattle.image_services.specs.Stores.{Store}
-use Rattle.image_services.specs.Blocks.{block_size, block_type, code_type, block_bytes}
-use Rattle.image_services.specs.Placing.{placed, page_count, displacement, moved, with_image_rights}
+use Rattle.image_services.specs.Blocks.{loaded_image_protocol, block_size, block_type, code_type, block_bytes}
+use Rattle.image_services.specs.Placing.{placed, words_of, page_count, displacement, moved, with_image_rights}
 
 -- ---- what the file holds
 
@@ -108,43 +109,56 @@ loaded_memory m place image bytes block =
 
 -- ---- the load
 
-abbrev pub loaded_image : Place → Fields → ℕ → Loaded
-loaded_image place image made = record {
-  handle = handle_of (made + 1);
+abbrev pub loaded_image : Place → Fields → List ℕ → List Site → ℕ → Loaded
+loaded_image place image bytes sites handle = record {
+  handle = handle;
   base = place.base;
   pages = page_count image;
   subsystem = image.subsystem;
   entry = place.base + image.entry;
   block = place.block;
   started = false;
+  sites = sites;
+  words = words_of bytes sites;
 }
 
 -- Only so many pages are touched in all.
 abbrev pub lacks_frames : Pages → Place → Fields → Bool
 lacks_frames m place image = nat_lt frame_limit (count_true (touched_for m place image).touched)
 
-abbrev pub with_loaded : Layout → Store → ℕ → ℕ → Fields → Place → List ℕ → Store
-with_loaded layout s made parent image place bytes = record {
-  images = s.images ++ loaded_image place image made ∷ [];
-  memory = loaded_memory s.memory place image bytes (block_bytes parent layout.system place.base image.size image.subsystem);
-  pages = place.pages;
-  pool = place.pool;
+-- a load: the image's handle with the events that are to be signalled, in order, and the store behind
+pub record Load : Type 0 where
+  pub answer : Installation
+  pub after : Store
+
+abbrev pub with_loaded : Layout → Store → ℕ → Fields → Place → List ℕ → List Site → ProtocolsDone Installation → Load
+with_loaded layout s parent image place bytes sites done = record {
+  answer = done.answer;
+  after = record {
+    images = s.images ++ loaded_image place image bytes sites done.answer.handle ∷ [];
+    memory = loaded_memory s.memory place image bytes (block_bytes parent layout.system place.base image.size image.subsystem);
+    pages = place.pages;
+    pool = place.pool;
+    protocols = done.after;
+  };
 }
 
--- 2^60 - 1 handles are made in all.
-unfoldable pub stored : Layout → Store → ℕ → ℕ → Fields → Place → List ℕ → Result Store LoadRefusal
-stored layout s made parent image place bytes =
-    if nat_lt made (2 ^ 60 - 1)
-    then (if lacks_frames s.memory place image then Err refusals.Frames else Ok (with_loaded layout s made parent image place bytes))
-    else Err refusals.Full
+abbrev pub stored_by : Layout → Store → ℕ → Fields → Place → List ℕ → List Site → Result (ProtocolsDone Installation) ProtocolRefusal → Result Load LoadRefusal
+stored_by layout s parent image place bytes sites (Ok done) = if lacks_frames s.memory place image then Err refusals.Frames else Ok (with_loaded layout s parent image place bytes sites done)
+stored_by layout s parent image place bytes sites (Err refusal) = Err refusals.Full
 
-unfoldable pub loaded_file : Layout → Store → ℕ → ℕ → FileImage → Result Store LoadRefusal
-loaded_file layout s made parent file = do
+-- The image's handle is a new one, on which the loaded image protocol is installed; the interface is the block's address.
+-- That is refused only where there are no more handles.
+unfoldable pub stored : Layout → Store → ℕ → Fields → Place → List ℕ → List Site → Result Load LoadRefusal
+stored layout s parent image place bytes sites = stored_by layout s parent image place bytes sites (installation s.protocols None loaded_image_protocol place.block)
+
+unfoldable pub loaded_file : Layout → Store → ℕ → FileImage → Result Load LoadRefusal
+loaded_file layout s parent file = do
   place ← place_for s.pages s.pool file.image
   bytes ← moved file.bytes file.sites (displacement file.image.image_base place.base)
-  stored layout s made parent file.image place bytes
+  stored layout s parent file.image place bytes file.sites
 
--- A file is loaded for a parent, so many handles having been made, or refused, and then nothing changes.
-unfoldable pub load_of : Layout → Store → ℕ → List ℕ → ℕ → Result Store LoadRefusal
-load_of layout s made file parent =
-    if nat_lt (length s.images) most_images then read_file file >>= loaded_file layout s made parent else Err refusals.TooMany
+-- A file is loaded for a parent, or refused, and then nothing changes.
+unfoldable pub load_of : Layout → Store → List ℕ → ℕ → Result Load LoadRefusal
+load_of layout s file parent =
+    if nat_lt (length s.images) most_images then read_file file >>= loaded_file layout s parent else Err refusals.TooMany

@@ -1,5 +1,5 @@
 -- An image's bytes where it lies, and the rights to its pages.
-use Rattle.std.specs.Prelude.{ℕ, zero, suc, ◌≤◌, ◌+◌, ◌-◌, ◌/◌, ◌%◌, ◌^◌, ◌==◌, nat_lt, Bool, true, false, List, [], ◌∷◌, length, Option, Some, None, Result, Ok, Err, if◌then◌else◌}
+use Rattle.std.specs.Prelude.{ℕ, zero, suc, ◌≤◌, ◌+◌, ◌-◌, ◌/◌, ◌%◌, ◌^◌, ◌==◌, nat_lt, Bool, true, false, List, [], ◌∷◌, length, map, Option, Some, None, Result, Ok, Err, if◌then◌else◌}
 use Rattle.guest_memory.specs.Pages.{Pages, all_rights}
 use Rattle.guest_memory.specs.Changes.{with_rights}
 use Rattle.guest_memory.specs.declared.rights.Rights.{Rights}
@@ -8,7 +8,7 @@ use Rattle.pe_image.specs.ImageOf.{Fields}
 use Rattle.pe_image.specs.Placed.{in_pages, placed_byte}
 use Rattle.base_reloc.specs.declared.fault.RelocFault.TheVariants as relocs
 use Rattle.base_reloc.specs.declared.site.Site.{Site}
-use Rattle.base_reloc.specs.Moved.{moved_byte, first_leaving}
+use Rattle.base_reloc.specs.Moved.{moved_byte, word_at, first_leaving}
 use Rattle.image_services.specs.declared.refusal.LoadRefusal.{LoadRefusal}
 use Rattle.image_services.specs.declared.refusal.LoadRefusal.TheVariants as refusals
 
@@ -35,6 +35,10 @@ moved_by (Some site) bytes sites by = Err (refusals.Reloc (relocs.Range32 site))
 
 abbrev pub moved : List ℕ → List Site → ℕ → Result (List ℕ) LoadRefusal
 moved bytes sites by = moved_by (first_leaving bytes by 0 sites) bytes sites by
+
+-- The words of sites, as they stand in bytes.
+unfoldable pub words_of : List ℕ → List Site → List ℕ
+words_of bytes sites = map (λ (site : Site). word_at site.kind bytes site.at) sites
 
 -- ---- rights
 

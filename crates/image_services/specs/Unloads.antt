@@ -8,10 +8,12 @@ use Rattle.page_alloc.specs.Calls.{freeing, after_freeing}
 use Rattle.pool_alloc.specs.declared.refusal.PoolRefusal.{PoolRefusal}
 use Rattle.pool_alloc.specs.declared.span.PageSpan.{PageSpan}
 use Rattle.pool_alloc.specs.Calls.{Done, pool_freeing, pages_freed}
-use Rattle.image_services.specs.declared.images.Loaded.{Loaded}
 use Rattle.image_services.specs.declared.refusal.UnloadRefusal.{UnloadRefusal}
 use Rattle.image_services.specs.declared.refusal.UnloadRefusal.TheVariants as refusals
-use Rattle.image_services.specs.Images.{find_image, without_image}
+use Rattle.protocol_db.specs.Registrations.{Protocols}
+use Rattle.protocol_db.specs.Calls.{discarded as protocol_discarded}
+use Rattle.image_services.specs.Blocks.{loaded_image_protocol}
+use Rattle.image_services.specs.Images.{Loaded, find_image, without_image}
 use Rattle.image_services.specs.Stores.{Space, Store, space_of, with_space}
 
 -- The memory without a block: a page that goes back with it is cleared, and elsewhere its bytes become zeros.
@@ -36,11 +38,16 @@ unfoldable pub without_pages : Space → ℕ → ℕ → Space
 without_pages s at count =
     let answer = freeing s.pages owners.Image at count in record s { memory = pages_cleared s.memory at count answer; pages = after_freeing answer s.pages at count }
 
+-- The loaded image protocol goes from a handle, whatever its interface and whoever opened it.
+abbrev pub without_protocol : Protocols → ℕ → Protocols
+without_protocol protocols handle = protocol_discarded protocols handle loaded_image_protocol
+
 abbrev pub without_loaded : Store → Option Loaded → Store
 without_loaded s None = s
-without_loaded s (Some image) = with_space (without_image s.images image.handle) (without_pages (without_block (space_of s) image.block) image.base image.pages)
+without_loaded s (Some image) =
+    with_space (without_image s.images image.handle) (without_protocol s.protocols image.handle) (without_pages (without_block (space_of s) image.block) image.base image.pages)
 
--- The image of a handle goes, with its block and its pages; an unknown handle changes nothing.
+-- The image of a handle goes, with its protocol, its block and its pages; an unknown handle changes nothing.
 unfoldable pub discarded : Store → ℕ → Store
 discarded s handle = without_loaded s (find_image s.images handle)
 

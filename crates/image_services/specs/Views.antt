@@ -2,6 +2,11 @@
 use Rattle.std.specs.Prelude.{ℕ, ◌≡◌, ◌≤◌, ◌+◌, ◌*◌, ◌%◌, List, Option, Some, None, Result, Ok, Err}
 use Rattle.guest_memory.specs.Changes.{TouchedBesides}
 use Rattle.pool_alloc.specs.declared.span.PageSpan.{PageSpan}
+use Rattle.handle_db.specs.Calls.{with_handle}
+use Rattle.protocol_db.specs.declared.refusal.ProtocolRefusal.{ProtocolRefusal}
+use Rattle.protocol_db.specs.declared.refusal.ProtocolRefusal.TheVariants as protocol
+use Rattle.protocol_db.specs.Registrations.{Protocols}
+use Rattle.protocol_db.specs.Calls.{Done as ProtocolsDone, Installation, announced}
 use Rattle.pe_image.specs.declared.fault.PeFault.{PeFault}
 use Rattle.pe_image.specs.declared.fault.PeFault.TheVariants as pe
 use Rattle.pe_image.specs.ImageOf.{fields_of}
@@ -10,12 +15,11 @@ use Rattle.base_reloc.specs.declared.fault.RelocFault.TheVariants as reloc
 use Rattle.image_services.specs.declared.refusal.LoadRefusal.{LoadRefusal}
 use Rattle.image_services.specs.declared.refusal.LoadRefusal.TheVariants as refusals
 use Rattle.image_services.specs.declared.refusal.UnloadRefusal.{UnloadRefusal}
-use Rattle.image_services.specs.Images.{handle_of}
 use Rattle.image_services.specs.declared.reading.FileImage as reading
 use Rattle.image_services.specs.Stores.{Store}
 use Rattle.image_services.specs.declared.claiming.Claim as claiming
-use Rattle.image_services.specs.Blocks.{block_size}
-use Rattle.image_services.specs.Loads.{FileImage, Place}
+use Rattle.image_services.specs.Blocks.{block_size, loaded_image_protocol}
+use Rattle.image_services.specs.Loads.{FileImage, Place, Load}
 
 abbrev pub pe_refusal : PeFault → LoadRefusal
 pe_refusal pe.Memory = refusals.Memory
@@ -68,10 +72,19 @@ abbrev pub Leaves : LoadRefusal → Store → Store → Type 0
 Leaves refusals.Memory old new = (new ≡ record old { memory = new.memory }) × TouchedBesides old.memory new.memory
 Leaves refusal old new = new ≡ old
 
--- A load that answers so leads from old to new, and from one count of handles that were made to another.
-abbrev pub LoadGives : Result ℕ LoadRefusal → Result Store LoadRefusal → (old : Store) → (new : Store) → (made : ℕ) → (count : ℕ) → Type 0
-LoadGives (Ok handle) judged old new made count = (judged ≡ Ok new) × (count ≡ made + 1) × (handle ≡ handle_of count)
-LoadGives (Err refusal) judged old new made count = Stops refusal judged × Leaves refusal old new × (count ≡ made)
+-- The loaded image protocol with a block as its interface will be on a handle, which is a new one.
+abbrev pub InstallsNext : ℕ → Result (ProtocolsDone Installation) ProtocolRefusal → Protocols → ℕ → Type 0
+InstallsNext handle judged protocols block = judged ≡ Ok (announced protocols (with_handle protocols.handles loaded_image_protocol block) handle loaded_image_protocol)
+
+-- That handle, or none where there are no more.
+abbrev pub NextInstalls : Option ℕ → Result (ProtocolsDone Installation) ProtocolRefusal → Protocols → ℕ → Type 0
+NextInstalls None judged protocols block = judged ≡ Err protocol.Full
+NextInstalls (Some handle) judged protocols block = InstallsNext handle judged protocols block
+
+-- A load that answers so leads from old to new.
+abbrev pub LoadGives : Result Installation LoadRefusal → Result Load LoadRefusal → Store → Store → Type 0
+LoadGives (Ok installed) judged old new = judged ≡ Ok (record { answer = installed; after = new })
+LoadGives (Err refusal) judged old new = Stops refusal judged × Leaves refusal old new
 
 -- An unload that answers so leads from old to new.
 abbrev pub UnloadGives : Result (Unit {0}) UnloadRefusal → Result Store UnloadRefusal → Store → Store → Type 0

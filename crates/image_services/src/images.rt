@@ -1,7 +1,9 @@
 //! The images that are loaded.
-ghost use Rattle.std.specs.Prelude.{◌≡◌, ◌<◌, ◌++◌, ◌∷◌, [], nat_lt, IfOk, length};
-ghost use Rattle.image_services.specs.Images.{find_image, without_image, with_started, has_handle, started_at, most_images};
+ghost use Rattle.std.specs.Prelude.{◌≡◌, ◌<◌, ◌++◌, ◌∷◌, [], nat_lt, List, OnOk, OnErr, length};
+ghost use Rattle.std.specs.Option.{option_copied};
+ghost use Rattle.image_services.specs.Images.{Loaded as LoadedImage, find_image, without_image, with_started, has_handle, started_at, most_images};
 
+use base_reloc::Site;
 use std::alloc::{AllocError, Global};
 use std::marker::Model;
 
@@ -9,7 +11,7 @@ use std::marker::Model;
 const MOST: usize = 16;
 
 /// An image in memory.
-#[derive(Clone, Copy, Debug, PartialEq, Eq, Drop)]
+#[derive(Drop)]
 pub struct Loaded {
     /// Its handle, a multiple of 16.
     pub handle: u64,
@@ -25,6 +27,18 @@ pub struct Loaded {
     pub block: u64,
     /// Whether it was started.
     pub started: bool,
+    /// What moved with it, in the order of its base relocations; offsets are from its base.
+    pub sites: Vec<Site>,
+    /// The words of these sites as the load left them, of 8 bytes for `Dir64` and of 4 for the others.
+    pub words: Vec<u64>,
+}
+
+impl Model for Loaded {
+    ghost use Rattle.image_services.specs.Images.{Loaded as LoadedImage};
+
+    ghost Value = { LoadedImage };
+
+    ghost view = { λ i. record { handle = i.handle; base = i.base; pages = i.pages; subsystem = i.subsystem; entry = i.entry; block = i.block; started = i.started; sites = i.sites.items; words = i.words.items } };
 }
 
 impl Loaded {
@@ -35,17 +49,12 @@ impl Loaded {
         self.handle == handle
     }
 
-    /// The image, started if it has the handle.
-    fn started_at(self, handle: u64) -> Loaded
-        ensures { result ≡ started_at handle self }
+    /// Notes that it was started, if it has the handle.
+    fn start_at(&mut self, handle: u64)
+        ensures { self.new ≡ started_at handle self.old }
     {
-        if self.has(handle) {
-            Loaded {
-                started: true,
-                ..self
-            }
-        } else {
-            self
+        if self.handle == handle {
+            self.started = true;
         }
     }
 }
@@ -58,7 +67,7 @@ pub struct Images {
 
 impl Model for Images {
     ghost use Rattle.std.specs.Prelude.{◌≤◌, List, length};
-    ghost use Rattle.image_services.specs.declared.images.Loaded.{Loaded};
+    ghost use Rattle.image_services.specs.Images.{Loaded};
 
     ghost Value = { List Loaded };
 
@@ -78,10 +87,10 @@ impl Images {
     }
 
     /// The image of a handle.
-    pub fn find(&self, handle: u64) -> Option<Loaded>
-        ensures { result ≡ find_image self.now handle }
+    pub fn find(&self, handle: u64) -> Option<&Loaded>
+        ensures { option_copied result ≡ find_image self.now handle }
     {
-        self.images.iter().copied().find(|image| image.has(handle))
+        self.images.iter().find(|image| image.has(handle))
     }
 
     /// Notes that the image of a handle was started.
@@ -98,14 +107,22 @@ impl Images {
         self.images.retain(|image| !image.has(handle));
     }
 
-    /// These images and one more behind them.
-    pub(crate) fn with(&self, alloc: Global, image: Loaded) -> Result<Images, AllocError>
-        requires { length self.now < 16 }
-        ensures { IfOk result (λ images. images ≡ self.now ++ image ∷ []) }
+    /// Puts an image last.
+    pub(crate) fn add(&mut self, image: Loaded) -> Result<(), AllocError>
+        requires { length self.old < 16 }
+        ensures ok { OnOk result (self.new ≡ self.old ++ image ∷ []) }
+        ensures err { OnErr result (self.new ≡ self.old) }
     {
-        let mut images = Vec::from_slice(alloc, self.images.as_slice())?;
-        images.push(image)?;
-        Ok(Images { images })
+        self.images.push(image)?;
+        Ok(())
+    }
+
+    /// Takes the last image off the list.
+    #[tactic(auto, using(crate::proofs::InstallLemmas::but_last))]
+    pub(crate) fn drop_last(&mut self)
+        ensures { (images : List LoadedImage) → (image : LoadedImage) → self.old ≡ images ++ image ∷ [] → self.new ≡ images }
+    {
+        let _ = self.images.pop();
     }
 
     /// Whether there is room for one image more.
@@ -122,6 +139,6 @@ fn mark_started(images: &mut [Loaded], handle: u64)
     ensures long { length images.new ≡ length images.old }
 {
     for image in images.iter_mut() {
-        *image = image.started_at(handle);
+        image.start_at(handle);
     }
 }

@@ -4,6 +4,7 @@
 mod block;
 mod claiming;
 mod images;
+mod installing;
 mod laws;
 mod load;
 mod marks;
@@ -14,7 +15,8 @@ mod unload;
 mod writing;
 
 pub use images::{Images, Loaded};
-pub use laws::fields_stand_at_their_offsets;
+pub use installing::LOADED_IMAGE_PROTOCOL;
+pub use laws::{fields_stand_at_their_offsets, images_stay_in_order};
 pub use load::load_image;
 pub use refusal::{LoadRefusal, UnloadRefusal};
 pub use unload::{discard_image, unload_image};

@@ -1,5 +1,5 @@
 //! Loading images (UEFI 2.10, 7.4).
-ghost use Rattle.std.specs.Prelude.{◌≡◌, ◌≤◌, ◌<◌, ◌+◌, ◌-◌, ◌*◌, ◌%◌, ◌^◌, false, IfOk, OnOk, OnErr, length};
+ghost use Rattle.std.specs.Prelude.{◌≡◌, ◌≤◌, ◌<◌, ◌+◌, ◌-◌, ◌*◌, ◌%◌, ◌^◌, false, None, Ok, IfOk, OnOk, OnErr, length};
 ghost use Rattle.guest_memory.specs.Changes.{TouchedBesides};
 ghost use Rattle.pool_alloc.specs.Pool.{Together};
 ghost use Rattle.pe_image.specs.ImageOf.{fields_of};
@@ -7,29 +7,29 @@ ghost use Rattle.pe_image.specs.Placed.{in_pages};
 ghost use Rattle.pe_image.specs.Sound.{IsImage};
 ghost use Rattle.base_reloc.specs.Sites.{AreSites};
 ghost use Rattle.virtual_map.specs.States.{AreOneRam};
-ghost use Rattle.image_services.specs.Images.{handle_of};
-ghost use Rattle.image_services.specs.Blocks.{block_bytes as fields_bytes};
+ghost use Rattle.protocol_db.specs.Calls.{installation};
+ghost use Rattle.image_services.specs.Blocks.{loaded_image_protocol, block_bytes as fields_bytes};
 ghost use Rattle.image_services.specs.Placing.{displacement, page_count};
 ghost use Rattle.image_services.specs.Stores.{Store};
 ghost use Rattle.image_services.specs.Loads.{lacks_frames, loaded_image, loaded_memory, load_of, loaded_file, stored};
-ghost use Rattle.image_services.specs.Views.{LoadGives, Within, place_by, file_image};
+ghost use Rattle.image_services.specs.Views.{LoadGives, Within, InstallsNext, place_by, file_image};
 
 use crate::block::block_bytes;
 use crate::claiming::{Claim, claim_pages};
 use crate::images::{Images, Loaded};
+use crate::installing::next_handle;
 use crate::marks::lacks_frames;
-use crate::reading::{FileImage, move_sites, read_file};
+use crate::reading::{FileImage, move_sites, read_file, words_of};
 use crate::refusal::LoadRefusal;
 use crate::unload::page_index;
 use crate::writing::write_loaded;
+use base_reloc::Site;
 use guest_memory::GuestMemory;
 use page_alloc::{Layout, PageMap};
 use pe_image::Image;
 use pool_alloc::Pool;
+use protocol_db::{Installed, Protocols};
 use std::alloc::{AllocError, Global};
-
-/// The most handles that are made in all.
-const HANDLES: u64 = (1 << 60) - 1;
 
 /// The displacement of what moves from one address to another, modulo 2^64.
 fn displacement(from: u64, to: u64) -> u64
@@ -60,25 +60,27 @@ fn lacks_room(
     lacks_frames(alloc, memory, page, first, (image.size + 4095) / 4096)
 }
 
-/// An image as it stands in the list, so many handles having been made.
-fn loaded(claim: &Claim, image: &Image, made: u64) -> Loaded
+/// An image as it stands in the list, with its handle, its sites and their words.
+fn loaded(claim: &Claim, image: &Image, sites: Vec<Site>, words: Vec<u64>, handle: u64) -> Loaded
     requires image { IsImage (fields_of image.now) }
     requires base { claim.now.base ≤ 2 ^ 47 }
-    requires made { made < 2 ^ 60 - 1 }
-    ensures { result ≡ loaded_image (place_by claim.now) (fields_of image.now) made }
+    ensures { result ≡ record { handle = handle; base = claim.now.base; pages = page_count (fields_of image.now); subsystem = image.now.subsystem; entry = claim.now.base + image.now.entry; block = claim.now.block; started = false; sites = sites.items; words = words.items } }
 {
     Loaded {
-        handle: 16 * (made + 1),
+        handle,
         base: claim.base,
         pages: (image.size + 4095) / 4096,
         subsystem: image.subsystem,
         entry: claim.base + u64::from(image.entry),
         block: claim.block,
         started: false,
+        sites,
+        words,
     }
 }
 
-/// Writes an image and its block where they lie. There are frames for all their pages.
+/// Writes an image and its block where they lie, and installs its protocol. There are frames for all their pages, and there
+/// is a new handle.
 fn write_with_block(
     alloc: Global,
     layout: &Layout,
@@ -87,12 +89,18 @@ fn write_with_block(
     image: &Image,
     bytes: &[u8],
     parent: u64,
-) -> Result<(), AllocError>
+    protocols: &mut Protocols,
+    handle: u64,
+) -> Result<Installed, AllocError>
     requires base { memory.old.base ≡ layout.now.base }
     requires within { Within memory.old.base memory.old.pages (place_by claim.now) (page_count (fields_of image.now)) }
     requires image { IsImage (fields_of image.now) }
     requires bytes { length bytes.now ≡ in_pages image.now.size }
     requires frames { lacks_frames memory.old (place_by claim.now) (fields_of image.now) ≡ false }
+    requires next { InstallsNext handle (installation protocols.old None loaded_image_protocol claim.now.block) protocols.old claim.now.block }
+    ensures handle { IfOk result (λ installed. installed.handle ≡ handle) }
+    ensures installed { IfOk result (λ installed. installation protocols.old None loaded_image_protocol claim.now.block ≡ Ok (record { answer = installed; after = protocols.new })) }
+    ensures kept { OnErr result (protocols.new ≡ protocols.old) }
     ensures ok { OnOk result (memory.new ≡ loaded_memory memory.old (place_by claim.now) (fields_of image.now) bytes.now (fields_bytes parent layout.now.system claim.now.base image.now.size image.now.subsystem)) }
     ensures err { OnErr result (TouchedBesides memory.old memory.new) }
     ensures base { memory.new.base ≡ memory.old.base }
@@ -106,7 +114,16 @@ fn write_with_block(
         image.size,
         image.subsystem,
     )?;
-    write_loaded(layout, memory, claim, image, bytes, block.as_slice())
+    write_loaded(
+        layout,
+        memory,
+        claim,
+        image,
+        bytes,
+        block.as_slice(),
+        protocols,
+        handle,
+    )
 }
 
 /// Stores an image at the place that was found for it.
@@ -118,40 +135,49 @@ fn store(
     memory: &mut GuestMemory,
     pages: &mut PageMap,
     pool: &mut Pool,
-    made: &mut u64,
+    protocols: &mut Protocols,
     image: &Image,
     bytes: &[u8],
+    sites: Vec<Site>,
     claim: Claim,
     parent: u64,
-) -> Result<u64, LoadRefusal>
+) -> Result<Installed, LoadRefusal>
     requires room { length images.old < 16 }
     requires ram { AreOneRam layout.now memory.old pages.old }
     requires together { Together pool.old pages.old }
     requires image { IsImage (fields_of image.now) }
     requires bytes { length bytes.now ≡ in_pages image.now.size }
+    requires sites { AreSites (length bytes.now) sites.items }
     requires within { Within memory.old.base memory.old.pages (place_by claim) (page_count (fields_of image.now)) }
     requires base { claim.pages.base ≡ pages.old.base }
     requires count { length claim.pages.pages ≡ length pages.old.pages }
     requires claimed { Together claim.pool claim.pages }
-    ensures gives { LoadGives result (stored layout.now (record { images = images.old; memory = memory.old; pages = pages.old; pool = pool.old }) made.old parent (fields_of image.now) (place_by claim) bytes.now) (record { images = images.old; memory = memory.old; pages = pages.old; pool = pool.old }) (record { images = images.new; memory = memory.new; pages = pages.new; pool = pool.new }) made.old made.new }
+    ensures gives { LoadGives result (stored layout.now (record { images = images.old; memory = memory.old; pages = pages.old; pool = pool.old; protocols = protocols.old }) parent (fields_of image.now) (place_by claim) bytes.now sites.items) (record { images = images.old; memory = memory.old; pages = pages.old; pool = pool.old; protocols = protocols.old }) (record { images = images.new; memory = memory.new; pages = pages.new; pool = pool.new; protocols = protocols.new }) }
     ensures ram { AreOneRam layout.now memory.new pages.new }
     ensures together { Together pool.new pages.new }
 {
     memory.whole();
-    if *made >= HANDLES {
+    let Some(handle) = next_handle(protocols, claim.block) else {
         return Err(LoadRefusal::Full);
-    }
+    };
     if lacks_room(alloc, layout, memory, &claim, image)? {
         return Err(LoadRefusal::Frames);
     }
-    let loaded = loaded(&claim, image, *made);
-    let more = images.with(alloc, loaded)?;
-    write_with_block(alloc, layout, memory, &claim, image, bytes, parent)?;
-    *images = more;
-    *pages = claim.pages;
-    *pool = claim.pool;
-    *made += 1;
-    Ok(loaded.handle)
+    let words = words_of(alloc, bytes, sites.as_slice())?;
+    images.add(loaded(&claim, image, sites, words, handle))?;
+    match write_with_block(
+        alloc, layout, memory, &claim, image, bytes, parent, protocols, handle,
+    ) {
+        Ok(installed) => {
+            *pages = claim.pages;
+            *pool = claim.pool;
+            Ok(installed)
+        }
+        Err(stop) => {
+            images.drop_last();
+            Err(LoadRefusal::from(stop))
+        }
+    }
 }
 
 /// Finds a place for the image of a file, moves it there and stores it.
@@ -163,17 +189,17 @@ fn load_file(
     memory: &mut GuestMemory,
     pages: &mut PageMap,
     pool: &mut Pool,
-    made: &mut u64,
+    protocols: &mut Protocols,
     file: FileImage,
     parent: u64,
-) -> Result<u64, LoadRefusal>
+) -> Result<Installed, LoadRefusal>
     requires room { length images.old < 16 }
     requires ram { AreOneRam layout.now memory.old pages.old }
     requires together { Together pool.old pages.old }
     requires image { IsImage (fields_of file.image) }
     requires bytes { length file.bytes.items ≡ in_pages file.image.size }
     requires sites { AreSites (length file.bytes.items) file.sites.items }
-    ensures gives { LoadGives result (loaded_file layout.now (record { images = images.old; memory = memory.old; pages = pages.old; pool = pool.old }) made.old parent (file_image file)) (record { images = images.old; memory = memory.old; pages = pages.old; pool = pool.old }) (record { images = images.new; memory = memory.new; pages = pages.new; pool = pool.new }) made.old made.new }
+    ensures gives { LoadGives result (loaded_file layout.now (record { images = images.old; memory = memory.old; pages = pages.old; pool = pool.old; protocols = protocols.old }) parent (file_image file)) (record { images = images.old; memory = memory.old; pages = pages.old; pool = pool.old; protocols = protocols.old }) (record { images = images.new; memory = memory.new; pages = pages.new; pool = pool.new; protocols = protocols.new }) }
     ensures ram { AreOneRam layout.now memory.new pages.new }
     ensures together { Together pool.new pages.new }
 {
@@ -192,18 +218,19 @@ fn load_file(
         memory,
         pages,
         pool,
-        made,
+        protocols,
         &image,
         bytes.as_slice(),
+        sites,
         claim,
         parent,
     )
 }
 
-/// Loads the image of a file of at most 4 MiB for a parent, which is a handle or 0, and answers its handle. `made` is how
-/// many handles were made so far. The image is moved to its pages, whose rights are those of its sections, and its block
-/// holds an EFI_LOADED_IMAGE_PROTOCOL (UEFI 2.10, 9.1). After a refusal all is as it was, but that after want of memory
-/// more pages may be touched.
+/// Loads the image of a file of at most 4 MiB for a parent, which is a handle or 0. The image is moved to its pages, whose
+/// rights are those of its sections. Its block holds an EFI_LOADED_IMAGE_PROTOCOL (UEFI 2.10, 9.1), and that protocol is
+/// installed on a new handle, which is the image's; the answer has this handle and the events that are to be signalled.
+/// After a refusal all is as it was, but that after want of memory more pages may be touched.
 #[tactic(auto, unfolding(crate::specs::Loads::load_of))]
 pub fn load_image(
     alloc: Global,
@@ -212,14 +239,14 @@ pub fn load_image(
     memory: &mut GuestMemory,
     pages: &mut PageMap,
     pool: &mut Pool,
-    made: &mut u64,
+    protocols: &mut Protocols,
     bytes: &[u8],
     parent: u64,
-) -> Result<u64, LoadRefusal>
+) -> Result<Installed, LoadRefusal>
     requires ram { AreOneRam layout.now memory.old pages.old }
     requires together { Together pool.old pages.old }
     requires file { length bytes.now ≤ 0x400000 }
-    ensures gives { LoadGives result (load_of layout.now (record { images = images.old; memory = memory.old; pages = pages.old; pool = pool.old }) made.old bytes.now parent) (record { images = images.old; memory = memory.old; pages = pages.old; pool = pool.old }) (record { images = images.new; memory = memory.new; pages = pages.new; pool = pool.new }) made.old made.new }
+    ensures gives { LoadGives result (load_of layout.now (record { images = images.old; memory = memory.old; pages = pages.old; pool = pool.old; protocols = protocols.old }) bytes.now parent) (record { images = images.old; memory = memory.old; pages = pages.old; pool = pool.old; protocols = protocols.old }) (record { images = images.new; memory = memory.new; pages = pages.new; pool = pool.new; protocols = protocols.new }) }
     ensures ram { AreOneRam layout.now memory.new pages.new }
     ensures together { Together pool.new pages.new }
 {
@@ -228,6 +255,6 @@ pub fn load_image(
     }
     let file = read_file(alloc, bytes)?;
     load_file(
-        alloc, images, layout, memory, pages, pool, made, file, parent,
+        alloc, images, layout, memory, pages, pool, protocols, file, parent,
     )
 }

@@ -3,15 +3,16 @@ ghost use Rattle.std.specs.Prelude.{◌≡◌, ◌≤◌, ◌+◌, ◌*◌, ◌%
 ghost use Rattle.pe_image.specs.ImageOf.{fields_of, image_of};
 ghost use Rattle.pe_image.specs.Placed.{in_pages};
 ghost use Rattle.pe_image.specs.Sound.{IsImage};
-ghost use Rattle.base_reloc.specs.Sites.{AreSites};
+ghost use Rattle.base_reloc.specs.Sites.{AreSites, end_of};
+ghost use Rattle.base_reloc.specs.Moved.{word_at};
 ghost use Rattle.base_reloc.specs.Kept.{sites_in};
-ghost use Rattle.image_services.specs.Placing.{placed, moved};
+ghost use Rattle.image_services.specs.Placing.{placed, moved, words_of};
 ghost use Rattle.image_services.specs.Loads.{read_image, read_sites, read_file};
 ghost use Rattle.image_services.specs.Views.{Judges, Moves, file_image};
 
 use crate::refusal::{LoadRefusal, pe_refusal, reloc_refusal};
-use base_reloc::{Site, apply, read_sites};
-use pe_image::{Image, place, read_image};
+use base_reloc::{Site, SiteKind, apply, read_sites};
+use pe_image::{Image, place, read_image, u32_in, u64_in};
 use std::alloc::{AllocError, Global};
 
 /// What an image file holds: its image, the image's bytes in whole pages, and the sites in them.
@@ -109,4 +110,29 @@ pub(crate) fn move_sites(
         Ok(()) => Ok(()),
         Err(fault) => Err(LoadRefusal::Reloc(fault)),
     }
+}
+
+/// The word of a site of a placed image.
+fn word_of(bytes: &[u8], site: Site) -> u64
+    requires { end_of site ≤ length bytes.now }
+    ensures { result ≡ word_at site.kind bytes.now site.at }
+{
+    let at = site.at as usize;
+    match site.kind {
+        SiteKind::Dir64 => u64_in(bytes, at),
+        SiteKind::Highlow | SiteKind::High20 => u64::from(u32_in(bytes, at)),
+    }
+}
+
+/// The words of the sites of a placed image.
+#[tactic(auto, unfolding(crate::specs::Placing::words_of))]
+pub(crate) fn words_of(alloc: Global, bytes: &[u8], sites: &[Site]) -> Result<Vec<u64>, AllocError>
+    requires { AreSites (length bytes.now) sites.now }
+    ensures { IfOk result (λ words. words.items ≡ words_of bytes.now sites.now) }
+{
+    let mut words = Vec::with_capacity(alloc, sites.len())?;
+    for site in sites {
+        words.push(word_of(bytes, *site))?;
+    }
+    Ok(words)
 }

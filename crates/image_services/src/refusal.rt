@@ -22,7 +22,7 @@ pub enum LoadRefusal {
     Placed,
     /// There are no pages for it, or none for its block.
     NoPages,
-    /// 2^60 - 1 handles were made.
+    /// 1,024 handles are live, or 2^60 - 1 were made.
     Full,
     /// More than 65,536 pages would be touched.
     Frames,

@@ -10,10 +10,12 @@ ghost use Rattle.image_services.specs.Unloads.{block_cleared, without_block, pag
 ghost use Rattle.image_services.specs.Views.{UnloadGives};
 
 use crate::images::Images;
+use crate::installing::discard_protocol;
 use crate::refusal::UnloadRefusal;
 use guest_memory::GuestMemory;
 use page_alloc::{Layout, Owner, PageMap};
 use pool_alloc::{PageSpan, Pool, pool_stays_together};
+use protocol_db::Protocols;
 
 /// The page of an address in RAM, counted from its base.
 pub(crate) fn page_index(layout: &Layout, memory: &GuestMemory, at: u64) -> u32
@@ -93,9 +95,9 @@ fn free_pages(layout: &Layout, memory: &mut GuestMemory, pages: &mut PageMap, at
     }
 }
 
-/// Takes the image of a handle out of memory, whether or not it was started: its block is freed and its pages are, which
-/// are zeros then, with all rights and untouched. What of it isn't the pool's or an image's any more is left alone. An
-/// unknown handle changes nothing.
+/// Takes the image of a handle out of memory, whether or not it was started: its handle loses the loaded image protocol, its
+/// block is freed and its pages are, which are zeros then, with all rights and untouched. What of it isn't the pool's or an
+/// image's any more is left alone. An unknown handle changes nothing.
 #[tactic(auto, unfolding(crate::specs::Unloads::discarded, crate::specs::Unloads::without_pages))]
 pub fn discard_image(
     images: &mut Images,
@@ -103,21 +105,25 @@ pub fn discard_image(
     memory: &mut GuestMemory,
     pages: &mut PageMap,
     pool: &mut Pool,
+    protocols: &mut Protocols,
     handle: u64,
 )
     requires ram { AreOneRam layout.now memory.old pages.old }
     requires together { Together pool.old pages.old }
-    ensures gives { record { images = images.new; memory = memory.new; pages = pages.new; pool = pool.new } ≡ discarded (record { images = images.old; memory = memory.old; pages = pages.old; pool = pool.old }) handle }
+    ensures gives { record { images = images.new; memory = memory.new; pages = pages.new; pool = pool.new; protocols = protocols.new } ≡ discarded (record { images = images.old; memory = memory.old; pages = pages.old; pool = pool.old; protocols = protocols.old }) handle }
     ensures ram { AreOneRam layout.now memory.new pages.new }
     ensures together { Together pool.new pages.new }
 {
     let Some(image) = images.find(handle) else {
         return;
     };
-    images.remove(image.handle);
-    free_block(layout, memory, pages, pool, image.block);
+    let (handle, block) = (image.handle, image.block);
+    let (base, count) = (image.base, image.pages);
+    images.remove(handle);
+    discard_protocol(protocols, handle);
+    free_block(layout, memory, pages, pool, block);
     pool.whole();
-    free_pages(layout, memory, pages, image.base, image.pages);
+    free_pages(layout, memory, pages, base, count);
 }
 
 /// Unloads the image of a handle: it is discarded, unless it was started.
@@ -128,20 +134,22 @@ pub fn unload_image(
     memory: &mut GuestMemory,
     pages: &mut PageMap,
     pool: &mut Pool,
+    protocols: &mut Protocols,
     handle: u64,
 ) -> Result<(), UnloadRefusal>
     requires ram { AreOneRam layout.now memory.old pages.old }
     requires together { Together pool.old pages.old }
-    ensures gives { UnloadGives result (unloaded (record { images = images.old; memory = memory.old; pages = pages.old; pool = pool.old }) handle) (record { images = images.old; memory = memory.old; pages = pages.old; pool = pool.old }) (record { images = images.new; memory = memory.new; pages = pages.new; pool = pool.new }) }
+    ensures gives { UnloadGives result (unloaded (record { images = images.old; memory = memory.old; pages = pages.old; pool = pool.old; protocols = protocols.old }) handle) (record { images = images.old; memory = memory.old; pages = pages.old; pool = pool.old; protocols = protocols.old }) (record { images = images.new; memory = memory.new; pages = pages.new; pool = pool.new; protocols = protocols.new }) }
     ensures ram { AreOneRam layout.now memory.new pages.new }
     ensures together { Together pool.new pages.new }
 {
     let Some(image) = images.find(handle) else {
         return Err(UnloadRefusal::Unknown);
     };
+    let handle = image.handle;
     if image.started {
         return Err(UnloadRefusal::Started);
     }
-    discard_image(images, layout, memory, pages, pool, image.handle);
+    discard_image(images, layout, memory, pages, pool, protocols, handle);
     Ok(())
 }

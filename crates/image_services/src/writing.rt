@@ -1,5 +1,5 @@
 //! The memory of an image that is loaded.
-ghost use Rattle.std.specs.Prelude.{◌≡◌, ◌≤◌, ◌+◌, ◌*◌, ◌/◌, ◌%◌, true, OnOk, OnErr, length};
+ghost use Rattle.std.specs.Prelude.{◌≡◌, ◌≤◌, ◌+◌, ◌*◌, ◌/◌, ◌%◌, true, None, Ok, IfOk, OnOk, OnErr, length};
 ghost use Rattle.uh_base.specs.Limits.{frame_limit};
 ghost use Rattle.guest_memory.specs.Lists.{count_true, filled};
 ghost use Rattle.guest_memory.specs.Pages.{InPage, page_of, is_touched};
@@ -7,18 +7,21 @@ ghost use Rattle.guest_memory.specs.Changes.{TouchedBesides, put_part, reserved,
 ghost use Rattle.pe_image.specs.ImageOf.{fields_of};
 ghost use Rattle.pe_image.specs.Placed.{in_pages};
 ghost use Rattle.pe_image.specs.Sound.{IsImage};
-ghost use Rattle.image_services.specs.Blocks.{block_size};
+ghost use Rattle.protocol_db.specs.Calls.{installation};
+ghost use Rattle.image_services.specs.Blocks.{block_size, loaded_image_protocol};
 ghost use Rattle.image_services.specs.Placing.{page_count};
 ghost use Rattle.image_services.specs.Loads.{touched_for, with_new_page, loaded_memory};
-ghost use Rattle.image_services.specs.Views.{AreWithin, Within, place_by};
+ghost use Rattle.image_services.specs.Views.{AreWithin, Within, InstallsNext, place_by};
 
 use crate::claiming::Claim;
+use crate::installing::install_block;
 use crate::rights::{ALL, set_image_rights};
 use crate::unload::page_index;
 use guest_memory::{GuestMemory, PutEnd};
 use page_alloc::Layout;
 use pe_image::Image;
 use pool_alloc::PageSpan;
+use protocol_db::{Installed, Protocols};
 use std::alloc::AllocError;
 
 /// Touches so many pages from a page on, where there are frames for them.
@@ -26,10 +29,11 @@ fn touch(memory: &mut GuestMemory, first: u32, count: u32) -> Result<(), AllocEr
     requires inside { first + count ≤ memory.old.pages }
     requires frames { count_true (reserved memory.old first count).touched ≤ frame_limit }
     ensures ok { OnOk result (memory.new ≡ reserved memory.old first count) }
-    ensures err { OnErr result (TouchedBesides memory.old memory.new) }
+    ensures besides { TouchedBesides memory.old memory.new }
     ensures base { memory.new.base ≡ memory.old.base }
     ensures pages { memory.new.pages ≡ memory.old.pages }
 {
+    memory.whole();
     match memory.reserve(first, count) {
         Ok(()) => Ok(()),
         Err(PutEnd::Memory) => Err(AllocError),
@@ -49,7 +53,7 @@ fn touch_both(
     requires image { first + count ≤ memory.old.pages }
     requires frames { count_true (reserved (reserved memory.old block 1) first count).touched ≤ frame_limit }
     ensures ok { OnOk result (memory.new ≡ reserved (reserved memory.old block 1) first count) }
-    ensures err { OnErr result (TouchedBesides memory.old memory.new) }
+    ensures besides { TouchedBesides memory.old memory.new }
     ensures base { memory.new.base ≡ memory.old.base }
     ensures pages { memory.new.pages ≡ memory.old.pages }
 {
@@ -109,8 +113,8 @@ fn put_bytes(memory: &mut GuestMemory, at: u64, bytes: &[u8])
     }
 }
 
-/// Writes an image and its block where they lie, and gives the image's pages their rights. There are frames for all pages.
-/// After want of memory at most more pages are touched.
+/// Writes an image and its block where they lie, gives the image's pages their rights, and installs its protocol. There are
+/// frames for all pages, and there is a new handle. After want of memory at most more pages are touched.
 #[tactic(auto, unfolding(crate::specs::Loads::loaded_memory))]
 pub(crate) fn write_loaded(
     layout: &Layout,
@@ -119,13 +123,19 @@ pub(crate) fn write_loaded(
     image: &Image,
     bytes: &[u8],
     block: &[u8],
-) -> Result<(), AllocError>
+    protocols: &mut Protocols,
+    handle: u64,
+) -> Result<Installed, AllocError>
     requires base { memory.old.base ≡ layout.now.base }
     requires within { Within memory.old.base memory.old.pages (place_by claim.now) (page_count (fields_of image.now)) }
     requires image { IsImage (fields_of image.now) }
     requires bytes { length bytes.now ≡ in_pages image.now.size }
     requires block { length block.now ≡ block_size }
     requires frames { count_true (touched_for memory.old (place_by claim.now) (fields_of image.now)).touched ≤ frame_limit }
+    requires next { InstallsNext handle (installation protocols.old None loaded_image_protocol claim.now.block) protocols.old claim.now.block }
+    ensures handle { IfOk result (λ installed. installed.handle ≡ handle) }
+    ensures installed { IfOk result (λ installed. installation protocols.old None loaded_image_protocol claim.now.block ≡ Ok (record { answer = installed; after = protocols.new })) }
+    ensures kept { OnErr result (protocols.new ≡ protocols.old) }
     ensures ok { OnOk result (memory.new ≡ loaded_memory memory.old (place_by claim.now) (fields_of image.now) bytes.now block.now) }
     ensures err { OnErr result (TouchedBesides memory.old memory.new) }
     ensures base { memory.new.base ≡ memory.old.base }
@@ -136,9 +146,10 @@ pub(crate) fn write_loaded(
     let count = (image.size + 4095) / 4096;
     let page = page_index(layout, memory, claim.block);
     touch_both(memory, page, first, count)?;
+    let installed = install_block(protocols, handle, claim.block)?;
     open_page(layout, memory, claim.new);
     write_bytes(memory, first, bytes);
     set_image_rights(memory, first, image);
     put_bytes(memory, claim.block, block);
-    Ok(())
+    Ok(installed)
 }

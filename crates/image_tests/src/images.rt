@@ -4,21 +4,31 @@ ghost use Rattle.std.specs.Prelude.{◌≡◌, ◌≤◌, IfOk, length, vec_len}
 ghost use Rattle.page_alloc.specs.Layout.{IsRam};
 
 use address_view::View;
-use base_reloc::RelocFault;
+use base_reloc::{RelocFault, Site, SiteKind};
 use guest_call::number_seen;
 use guest_memory::{GuestMemory, Rights};
 use image_services::{
-    Images, LoadRefusal, Loaded, UnloadRefusal, discard_image, load_image, unload_image,
+    Images, LOADED_IMAGE_PROTOCOL, LoadRefusal, UnloadRefusal, discard_image, load_image,
+    unload_image,
 };
 use page_alloc::{Layout, Owner, PageMap, opening_covers_ram};
 use pe_image::PeFault;
 use pool_alloc::Pool;
+use protocol_db::{Installed, ProtocolRefusal, Protocols};
 use std::alloc::{AllocError, Global};
 use std::marker::Model;
 use std::test::Fail;
-use uh_base::EfiStatus;
+use uh_base::{EfiStatus, Guid};
 
-/// RAM with its page map, its pool and the images in it, and how many handles were made.
+/// A protocol of the console, EFI_SIMPLE_TEXT_OUTPUT_PROTOCOL_GUID.
+const CONSOLE: Guid = Guid {
+    d1: 0x3874_77c2,
+    d2: 0x69c7,
+    d3: 0x11d2,
+    d4: 0x8e39_00a0_c969_723b,
+};
+
+/// RAM with its page map, its pool and the images in it, and the protocols on handles.
 #[derive(Drop)]
 struct Ram {
     layout: Layout,
@@ -26,7 +36,7 @@ struct Ram {
     pages: PageMap,
     pool: Pool,
     images: Images,
-    made: u64,
+    protocols: Protocols,
 }
 
 impl Model for Ram {
@@ -36,47 +46,89 @@ impl Model for Ram {
 
     ghost Value = { Store };
 
-    ghost view = { λ r. record { images = r.images; memory = r.memory; pages = r.pages; pool = r.pool } };
+    ghost view = { λ r. record { images = r.images; memory = r.memory; pages = r.pages; pool = r.pool; protocols = r.protocols } };
 
     ghost invariant = { λ r. AreOneRam r.layout r.memory r.pages × Together r.pool r.pages };
 }
 
+/// The protocols on so many handles, the first of them the console's.
+fn on_handles(alloc: Global, handles: u32) -> Result<Protocols, ProtocolRefusal> {
+    let mut protocols = Protocols::new(alloc);
+    for _ in 0..handles {
+        protocols.install(None, CONSOLE, 8)?;
+    }
+    Ok(protocols)
+}
+
 impl Ram {
-    /// RAM at opening, one handle having been made.
+    /// RAM at opening, with the console on handle 16.
     #[tactic(auto, unfolding(page_alloc::specs::Layout::layout_at, page_alloc::specs::Opening::at_opening))]
-    fn new(alloc: Global, base: u64, pages: u32) -> Result<Ram, AllocError>
+    fn new(alloc: Global, base: u64, pages: u32) -> Result<Ram, ProtocolRefusal>
         requires { IsRam base pages }
     {
         opening_covers_ram();
         let layout = Layout::at(base, pages);
         let memory = GuestMemory::new(alloc, base, pages)?;
         let pages = PageMap::new(alloc, &layout)?;
+        let protocols = on_handles(alloc, 1)?;
         Ok(Ram {
             layout,
             memory,
             pages,
             pool: Pool::new(alloc),
             images: Images::new(alloc),
-            made: 1,
+            protocols,
         })
     }
 
+    /// The load of a file, of which no event is to be signalled.
     fn load(&mut self, alloc: Global, file: &[u8]) -> Result<u64, LoadRefusal>
         requires { length file.now ≤ 0x400000 }
     {
-        let images = &mut self.images;
-        let made = &mut self.made;
+        let installed = self.load_and_install(alloc, file)?;
+        if installed.events.is_empty() {
+            Ok(installed.handle)
+        } else {
+            Err(LoadRefusal::TooMany)
+        }
+    }
+
+    fn load_and_install(&mut self, alloc: Global, file: &[u8]) -> Result<Installed, LoadRefusal>
+        requires { length file.now ≤ 0x400000 }
+    {
         load_image(
             alloc,
-            images,
+            &mut self.images,
             &self.layout,
             &mut self.memory,
             &mut self.pages,
             &mut self.pool,
-            made,
+            &mut self.protocols,
             file,
             7,
         )
+    }
+
+    /// Where an image lies, by base, pages, entry point and block, its subsystem, and whether it was started.
+    fn image(&self, handle: u64) -> Option<((u64, u32, u64, u64), u16, bool)> {
+        let image = self.images.find(handle)?;
+        let place = (image.base, image.pages, image.entry, image.block);
+        Some((place, image.subsystem, image.started))
+    }
+
+    /// Whether an image has these sites, and these words there.
+    fn has_moved(&self, handle: u64, sites: &[Site], words: &[u64]) -> bool {
+        match self.images.find(handle) {
+            None => false,
+            Some(image) => image.sites.as_slice() == sites && image.words.as_slice() == words,
+        }
+    }
+
+    /// The interface of the loaded image protocol on a handle.
+    fn interface(&self, handle: u64) -> Option<u64> {
+        self.protocols
+            .handles()
+            .interface(handle, &LOADED_IMAGE_PROTOCOL)
     }
 
     fn unload(&mut self, handle: u64) -> Result<(), UnloadRefusal> {
@@ -86,6 +138,7 @@ impl Ram {
             &mut self.memory,
             &mut self.pages,
             &mut self.pool,
+            &mut self.protocols,
             handle,
         )
     }
@@ -97,9 +150,14 @@ impl Ram {
             &mut self.memory,
             &mut self.pages,
             &mut self.pool,
+            &mut self.protocols,
             handle,
         );
     }
+}
+
+fn site(at: u32, kind: SiteKind) -> Site {
+    Site { at, kind }
 }
 
 /// A change of a file.
@@ -160,23 +218,23 @@ fn file_of(alloc: Global, patches: &[Patch]) -> Result<Vec<u8>, AllocError>
     Ok(file)
 }
 
+/// The file with four changes.
+fn changed_file(alloc: Global, patches: [Patch; 4]) -> Result<Vec<u8>, AllocError>
+    ensures { IfOk result (λ file. vec_len file ≡ 1024) }
+{
+    file_of(alloc, &patches)
+}
+
 #[test]
 fn an_application_of_two_pages(rt: HostRuntime) -> Result<(), Fail> {
     let alloc = rt.alloc();
     let mut ram = Ram::new(alloc, 0x4000_0000, 4096)?;
     let file = file_of(alloc, &[])?;
     assert_eq!(rt; ram.load(alloc, &file), Ok(32));
-    let loaded = Loaded {
-        handle: 32,
-        base: 0x40fb_a000,
-        pages: 2,
-        subsystem: 10,
-        entry: 0x40fb_b000,
-        block: 0x40fb_9000,
-        started: false,
-    };
-    assert_eq!(rt; ram.images.find(32), Some(loaded));
-    assert_eq!(rt; ram.made, 2);
+    let image = ram.image(32);
+    let place = (0x40fb_a000, 2, 0x40fb_b000, 0x40fb_9000);
+    assert!(rt; image == Some((place, 10, false)));
+    assert_eq!(rt; ram.interface(32), Some(0x40fb_9000));
     assert_eq!(rt; ram.pages.key(), 3);
     assert_eq!(rt; ram.pages.type_at(0x40fb_9000), Some((4, Owner::Pool)));
     assert_eq!(rt; ram.pages.type_at(0x40fb_a000), Some((1, Owner::Image)));
@@ -229,8 +287,10 @@ fn images_go_again(rt: HostRuntime) -> Result<(), Fail> {
     ram.images.mark(32);
     assert_eq!(rt; ram.unload(33), Err(UnloadRefusal::Unknown));
     assert_eq!(rt; ram.unload(32), Err(UnloadRefusal::Started));
+    assert_eq!(rt; ram.interface(48), Some(0x40fb_9060));
     assert_eq!(rt; ram.unload(48), Ok(()));
-    assert_eq!(rt; ram.images.find(48), None);
+    assert!(rt; ram.images.find(48).is_none());
+    assert_eq!(rt; ram.protocols.handles().is_handle(48), false);
     assert_eq!(rt; ram.pages.key(), 5);
     ram.discard(33);
     assert_eq!(rt; ram.pages.key(), 5);
@@ -241,6 +301,28 @@ fn images_go_again(rt: HostRuntime) -> Result<(), Fail> {
         let at = 0x4000_0000 + 4096 * page;
         assert_eq!(rt; ram.pages.type_at(at), Some((7, Owner::Free)));
     }
+    Ok(())
+}
+
+#[test]
+fn a_load_tells_who_is_registered(rt: HostRuntime) -> Result<(), Fail> {
+    let alloc = rt.alloc();
+    let mut ram = Ram::new(alloc, 0x4000_0000, 256)?;
+    assert_eq!(rt; ram.protocols.register(LOADED_IMAGE_PROTOCOL, 5), Ok(20));
+    assert_eq!(rt; ram.protocols.register(CONSOLE, 6), Ok(36));
+    assert_eq!(rt; ram.protocols.register(LOADED_IMAGE_PROTOCOL, 4), Ok(52));
+    let file = file_of(alloc, &[])?;
+    let installed = ram.load_and_install(alloc, &file)?;
+    assert_eq!(rt; installed.handle, 32);
+    assert_eq!(rt; installed.events.as_slice(), &[5, 4][..]);
+    assert_eq!(rt; ram.protocols.first_notified(20), Some(32));
+    assert_eq!(rt; ram.protocols.first_notified(36), None);
+    assert_eq!(rt; ram.protocols.install(Some(32), CONSOLE, 8).is_ok(), true);
+    ram.discard(32);
+    assert_eq!(rt; ram.interface(32), None);
+    assert_eq!(rt; ram.protocols.handles().is_handle(32), true);
+    assert_eq!(rt; ram.protocols.first_notified(20), None);
+    assert_eq!(rt; ram.protocols.first_notified(36), Some(32));
     Ok(())
 }
 
@@ -321,26 +403,27 @@ fn refusals_leave_all_as_it_was(rt: HostRuntime) -> Result<(), Fail> {
         ),
         (
             [large; 4],
-            (1 << 60) - 1,
+            1024,
             LoadRefusal::NoPages,
             EfiStatus::OUT_OF_RESOURCES,
         ),
         (
             [table; 4],
-            (1 << 60) - 1,
+            1024,
             LoadRefusal::Full,
             EfiStatus::OUT_OF_RESOURCES,
         ),
     ];
-    for (patches, made, refusal, status) in rows {
+    for (patches, handles, refusal, status) in rows {
+        let file = changed_file(alloc, patches)?;
         let mut ram = Ram::new(alloc, 0x4000_0000, 256)?;
-        ram.made = made;
-        let file = file_of(alloc, &patches)?;
+        ram.protocols = on_handles(alloc, handles)?;
+        let next = ram.protocols.handles().next();
         assert_eq!(rt; ram.load(alloc, &file), Err(refusal));
         assert_eq!(rt; refusal.status(), status);
         assert_eq!(rt; ram.pages.key(), 1);
         assert_eq!(rt; ram.memory.touched(), 0);
-        assert_eq!(rt; ram.made, made);
+        assert_eq!(rt; ram.protocols.handles().next(), next);
     }
     Ok(())
 }
@@ -368,5 +451,31 @@ fn a_word_of_32_bits_leaves_its_range(rt: HostRuntime) -> Result<(), Fail> {
     assert_eq!(rt; high.load(alloc, &file), Err(refusal));
     assert_eq!(rt; refusal.status(), EfiStatus::LOAD_ERROR);
     assert_eq!(rt; high.pages.key(), 1);
+    Ok(())
+}
+
+#[test]
+fn what_moves_is_kept_with_its_words(rt: HostRuntime) -> Result<(), Fail> {
+    let alloc = rt.alloc();
+    let patches = [
+        Patch(0xf0, 0x1000, 4),
+        Patch(0xf4, 16, 4),
+        Patch(0x200, 0x1000, 4),
+        Patch(0x204, 16, 4),
+        Patch(0x208, 0xa018_3010, 4),
+        Patch(0x20c, 0x5020, 4),
+        Patch(0x220, 0x537, 4),
+    ];
+    let file = file_of(alloc, &patches)?;
+    let mut ram = Ram::new(alloc, 0x4000_0000, 256)?;
+    assert_eq!(rt; ram.load(alloc, &file), Ok(32));
+    ram.images.mark(32);
+    let sites = [
+        site(0x1010, SiteKind::Highlow),
+        site(0x1018, SiteKind::Dir64),
+        site(0x1020, SiteKind::High20),
+    ];
+    let words = [0x400b_a000, 0x400b_a000, 0x400b_a537];
+    assert!(rt; ram.has_moved(32, &sites, &words));
     Ok(())
 }

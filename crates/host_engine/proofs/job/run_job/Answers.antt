@@ -1,5 +1,5 @@
 use Rattle.std.proofs.Common.{arith, refl}
-use Rattle.firmware_core.specs.declared.happened.Happened.TheVariants.{Left, Halted}
+use Rattle.firmware_core.specs.declared.happened.JobEnd.TheVariants.{Left, Halted}
 use Rattle.firmware_core.specs.Jobs.{job_of}
 use Rattle.host_engine.proofs.JobLemmas.{begins, goes_on, ends_here, put_here, stops_here, part_by_then}
 use Rattle.host_engine.proofs.PutLemmas.{went, stopped, memory_stop}

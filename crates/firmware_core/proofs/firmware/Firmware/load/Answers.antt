@@ -1,4 +1,4 @@
 use Rattle.firmware_core.proofs.firmware.Firmware.load.Goals as goal
 
 pub invariant_of-self : goal.invariant_of-self
-invariant_of-self c = (record { runtime = c.load_image.ensures.ram; pool = c.load_image.ensures.together }, c.none-self-inside.ensures _ _)
+invariant_of-self c = (record { runtime = c.load_image.ensures.ram; pool = c.load_image.ensures.together; clock = c.self.invariant.0.clock }, c.none-self-inside.ensures _ _)

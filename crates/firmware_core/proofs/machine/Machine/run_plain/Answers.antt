@@ -1,16 +1,15 @@
 use Rattle.std.proofs.Common.{◌≡◌, ◌≤◌, ◌<◌, ℕ, arith, refl, sym, ap, subst, ◌∙◌}
 use Rattle.firmware_core.specs.Parts.{Parts}
-use Rattle.firmware_core.specs.Turns.{State}
+use Rattle.firmware_core.specs.Turns.{State, trapped}
 use Rattle.firmware_core.specs.Jobs.{next_said}
 use Rattle.firmware_core.proofs.TurnLemmas.{trap_leaves, frames_leave, next_is, none_by}
-use Rattle.firmware_core.proofs.JobLemmas.{Silent, steps_below, goes_silently}
+use Rattle.firmware_core.proofs.JobLemmas.{Silent, steps_below, goes_silently, trap_first, frames_first}
 use Rattle.firmware_core.proofs.machine.Machine.run_plain.Goals as goal
 
 pub loop-step-init : goal.loop-step-init
 loop-step-init c =
     let steps : c.args.self.now.steps ≡ c.self.inside.steps = sym (ap (λ (s : State). s.steps) c.self.view_is) in
-    let last : c.self.inside.bound ≡ c.args.self.now.bound = ap (λ (s : State). s.bound) c.self.view_is in
-    record { said = refl; at = steps; bound = refl; last = last; since = omega arith }
+    record { said = refl; at = steps; bound = refl; last = c.requires; since = omega arith; first = λ e. refl; second = λ e. (let none : ⊥ = omega arith in absurd none) }
 
 pub count-requires : goal.count-requires
 count-requires c =
@@ -24,13 +23,23 @@ returns-in-Trap-clause-said c =
     ap (λ (f : Parts). next_said (record { firmware = f; steps = c.self-in-loop-step.inside.steps; bound = c.self-in-loop-step.inside.bound })) (trap_leaves _ _ _ _ c.in-Trap.is c.instruct.ensures)
     ∙ ap next_said c.self-in-loop-step.view_is ∙ c.loop-step.invariant.said
 
+pub returns-in-Trap-clause-one : goal.returns-in-Trap-clause-one
+returns-in-Trap-clause-one c =
+    λ one none. trap_first _ _ _ _ (subst (λ (s : State). Silent c.args.self.now s c.loop-step.step c.args.end) (sym c.self-in-loop-step.view_is) c.loop-step.invariant) c.loop-step-test.true c.in-Trap.trap c.instruct.new.self
+    c.halt_by.result c.in-Trap.ensures (c.halt_by.ensures ∙ ap (trapped c.in-Trap.trap) c.pc-pc.ensures) one
+
 pub returns-in-Frames-clause-said : goal.returns-in-Frames-clause-said
 returns-in-Frames-clause-said c =
     ap (λ (f : Parts). next_said (record { firmware = f; steps = c.self-in-loop-step.inside.steps; bound = c.self-in-loop-step.inside.bound })) (frames_leave _ _ _ c.in-Frames.is c.instruct.ensures)
     ∙ ap next_said c.self-in-loop-step.view_is ∙ c.loop-step.invariant.said
 
+pub returns-in-Frames-clause-one : goal.returns-in-Frames-clause-one
+returns-in-Frames-clause-one c =
+    λ one none. rw c.pc-pc.ensures (frames_first _ _ _ _ (subst (λ (s : State). Silent c.args.self.now s c.loop-step.step c.args.end) (sym c.self-in-loop-step.view_is) c.loop-step.invariant) c.loop-step-test.true c.instruct.new.self
+    c.in-Frames.ensures one)
+
 pub loop-step-preserved : goal.loop-step-preserved
 loop-step-preserved c =
     let none = none_by _ c.if-is_some.ensures in
-    goes_silently _ _ _ _ (subst (λ (s : State). Silent c.args.self.now s c.loop-step.step c.self.inside.bound) (sym c.self-in-loop-step.view_is) c.loop-step.invariant) c.loop-step-test.true c.instruct.new.self c.count.new.self
+    goes_silently _ _ _ _ (subst (λ (s : State). Silent c.args.self.now s c.loop-step.step c.args.end) (sym c.self-in-loop-step.view_is) c.loop-step.invariant) c.loop-step-test.true c.instruct.new.self c.count.new.self
     (sym c.slot_at.ensures ∙ none) (next_is _ _ c.in-Next.ensures) c.count.ensures

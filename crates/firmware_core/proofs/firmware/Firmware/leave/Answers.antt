@@ -1,4 +1,0 @@
-use Rattle.firmware_core.proofs.firmware.Firmware.leave.Goals as goal
-
-pub invariant_of-self : goal.invariant_of-self
-invariant_of-self c = (record { runtime = c.discard_image.ensures.ram; pool = c.discard_image.ensures.together }, c.none-self-inside.ensures _ _)
