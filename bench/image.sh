@@ -86,7 +86,7 @@ TEXT
 # two of three turns are instructions
 cat >"$work/unbuilt_service" <<'TEXT'
 start: ld s0, 96(a1)
-       ld s0, 352(s0)
+       ld s0, 184(s0)
 next:  jalr ra, 0(s0)
        j next
 TEXT
