@@ -4,7 +4,7 @@
 ghost use Rattle.std.specs.Prelude.{◌≡◌, ◌<◌, ◌≤◌, ◌+◌, ◌-◌, ◌^◌, length, slice_get, IfOk, IfSome, IfNone, OnOk, OnErr, Some, None, is_some, true, false};
 ghost use Rattle.event_queue.specs.Kinds.{is_wait, is_signal};
 ghost use Rattle.event_queue.specs.Queue.{EventList, Whole, has_level, signal_each, shown, event_at, is_event, greatest, next_entry, notified, after_next, raise_one, signalled, group_signalled, lower_one, queue_one, without, group_kept, kept_calls};
-ghost use Rattle.event_queue.specs.Timers.{has_moment, ticked, after_tick, next_moment, with_timer, all_stopped, due_events, all_rewound, is_up_to, least_due};
+ghost use Rattle.event_queue.specs.Timers.{moment_ahead, reached, has_moment, ticked, after_tick, next_moment, with_timer, all_stopped, due_events, all_rewound, is_up_to, least_due};
 ghost use Rattle.event_queue.specs.Calls.{no_events, creation, after_creation, with_event, known, after_signal, after_close, setting, after_setting, checking, after_check, taking, after_taking};
 
 use crate::event::{Entry, Event, Notify};
@@ -440,6 +440,13 @@ impl Events {
         ensures { result ≡ has_moment self.now present }
     {
         self.ticks.has(present)
+    }
+
+    /// The moment of the next tick: the least tick moment above the last tick. None above 2^64 - 1.
+    pub fn tick_moment(&self) -> Option<u64>
+        ensures { result ≡ reached (moment_ahead self.now) }
+    {
+        self.ticks.ahead()
     }
 
     /// A tick at a moment.

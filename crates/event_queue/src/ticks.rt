@@ -65,6 +65,13 @@ impl TickMoments {
         }
     }
 
+    /// The least one above the last tick. None above 2^64 - 1.
+    pub fn ahead(&self) -> Option<u64>
+        ensures { result ≡ reached (first_moment self.now.listed (self.now.last + 1)) }
+    {
+        self.ahead
+    }
+
     /// The least one above the last tick that is at least a moment. None above 2^64 - 1.
     pub fn from(&self, low: u64) -> Option<u64>
         ensures { result ≡ reached (first_moment self.now.listed (max (self.now.last + 1) low)) }

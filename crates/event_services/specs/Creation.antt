@@ -11,7 +11,7 @@ use Rattle.guest_call.specs.Checks.{can_write}
 use Rattle.event_queue.specs.Queue.{EventList}
 use Rattle.event_queue.specs.Calls.{creation, after_creation}
 use Rattle.event_queue.specs.declared.refusal.EventRefusal.{EventRefusal}
-use Rattle.event_services.specs.Guids.{can_read_optional, guid_seen}
+use Rattle.guest_call.specs.Inputs.{can_read_optional, guid_seen}
 use Rattle.event_services.specs.Changes.{event_status}
 
 -- what a creation comes to, and the memory and the events behind it

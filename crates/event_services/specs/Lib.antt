@@ -1,7 +1,6 @@
 pub mod Levels
 pub mod Clock
 pub mod Changes
-pub mod Guids
 pub mod Creation
 pub mod Notices
 pub mod Checks

@@ -11,7 +11,7 @@ use Rattle.event_queue.specs.Queue.{EventList, is_event}
 use Rattle.protocol_db.specs.Registrations.{Protocols}
 use Rattle.protocol_db.specs.Calls.{Done, registration}
 use Rattle.protocol_db.specs.declared.refusal.ProtocolRefusal.{ProtocolRefusal}
-use Rattle.event_services.specs.Guids.{guid_seen}
+use Rattle.guest_call.specs.Inputs.{guid_seen}
 
 -- what a registration comes to, and the memory and the protocols behind it
 pub record RegisterDone : Type 0 where

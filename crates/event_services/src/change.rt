@@ -4,11 +4,11 @@
 ghost use Rattle.std.specs.Prelude.{◌≡◌};
 ghost use Rattle.event_services.specs.Changes.{set_timer, signal_event, close_event, status_of};
 
-use crate::answer::{event_status, gives};
+use crate::status::event_status;
 use event_queue::{EventRefusal, Events};
 use guest_call::{argument, low_word};
 use protocol_db::Protocols;
-use service_answer::Served;
+use service_answer::{Served, gives};
 use std::alloc::Global;
 use uh_base::EfiStatus;
 

@@ -4,8 +4,8 @@
 ghost use Rattle.std.specs.Prelude.{◌≡◌};
 ghost use Rattle.event_services.specs.Checks.{found, check_event, check_event_notified};
 
-use crate::answer::event_status;
 use crate::awaited::Awaited;
+use crate::status::event_status;
 use event_queue::{Check, EventRefusal, Events};
 use guest_call::argument;
 use uh_base::EfiStatus;

@@ -7,13 +7,12 @@ ghost use Rattle.address_view.specs.Seen.{all_pass, is_seen};
 ghost use Rattle.guest_call.specs.Outputs.{optional};
 ghost use Rattle.event_services.specs.Creation.{creation_asked, event_made, event_given, group_seen, create_event, create_event_ex};
 
-use crate::answer::{event_status, gives, lacks_frames};
-use crate::guid::{can_read_optional, guid_seen};
+use crate::status::event_status;
 use address_view::View;
 use event_queue::Events;
-use guest_call::{argument, can_write, low_word, put_number};
+use guest_call::{argument, can_read_optional, can_write, guid_seen, low_word, put_number};
 use guest_memory::{GuestMemory, PutEnd};
-use service_answer::Served;
+use service_answer::{Served, gives, lacks_frames};
 use std::alloc::{AllocError, Global};
 use uh_base::{EfiStatus, Guid};
 

@@ -1,17 +1,16 @@
 //! The boot services on events, timers and task priority levels: each over the parts of a machine that it reads or changes.
 #![tactic(auto)]
 
-mod answer;
 mod awaited;
 mod change;
 mod check;
 mod clock;
 mod create;
 mod decision;
-mod guid;
 mod laws;
 mod level;
 mod notice;
+mod status;
 mod wait;
 
 pub use awaited::Awaited;

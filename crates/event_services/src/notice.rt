@@ -8,25 +8,14 @@ ghost use Rattle.address_view.specs.Seen.{all_pass, is_seen};
 ghost use Rattle.address_view.specs.Stored.{lacks_seen};
 ghost use Rattle.event_services.specs.Notices.{registration_given, register_protocol_notify};
 
-use crate::answer::{gives, lacks_frames};
-use crate::guid::guid_seen;
-use address_view::{ByteRange, View, lacks_after};
+use address_view::View;
 use event_queue::Events;
-use guest_call::{argument, can_read, can_write, put_output};
+use guest_call::{argument, can_read, can_write, guid_seen, lacks_output, put_output};
 use guest_memory::GuestMemory;
 use protocol_db::{ProtocolRefusal, Protocols};
-use service_answer::Served;
+use service_answer::{Served, gives, lacks_frames};
 use std::alloc::{AllocError, Global};
 use uh_base::{EfiStatus, Guid};
-
-/// Whether an output of 8 bytes that is seen would touch more than 65,536 pages.
-#[tactic(auto, unfolding(address_view::specs::Ranges::marked_ranges))]
-fn lacks_output(memory: &GuestMemory, view: &View, at: u64) -> bool
-    requires { all_pass (is_seen (see view.now) memory.now) at 8 ≡ true }
-    ensures { result ≡ lacks_seen (see view.now) memory.now at 8 }
-{
-    lacks_after(memory, view, &[ByteRange { at, len: 8 }])
-}
 
 /// Registers an event, and answers the registration's number. None, and nothing changes, where there are as many as may be.
 #[tactic(auto, unfolding(protocol_db::specs::Calls::registration))]
@@ -117,7 +106,7 @@ pub fn register_protocol_notify(
         return Ok(gives(alloc, EfiStatus::INVALID_PARAMETER.0));
     }
     let guid = guid_seen(alloc, memory, view, named)?;
-    if lacks_output(memory, view, at) {
+    if lacks_output(memory, view, at, 8) {
         try_registration(alloc, view, memory, protocols, guid, event, at)
     } else {
         give_registration(alloc, view, memory, protocols, guid, event, at)

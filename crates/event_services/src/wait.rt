@@ -11,7 +11,7 @@ ghost use Rattle.event_services.specs.Waits.{decides, events_seen, judged, polle
 use crate::awaited::Awaited;
 use crate::decision::Decision;
 use address_view::View;
-use event_queue::{Check, EventRefusal, Events};
+use event_queue::{Check, EventRefusal, Events, next_moment_is_due};
 use guest_call::{argument, can_read_buffer, can_write, number_seen, put_number};
 use guest_memory::{GuestMemory, PutEnd};
 use std::alloc::AllocError;
@@ -169,8 +169,10 @@ pub fn wait_for_event(
 
 /// Lets time pass to the next moment at which a timer is due.
 fn pass(events: &Events, moment: &mut u64) -> Awaited
-    ensures { record { answer = result; moment = moment.new } ≡ passed_to moment.old (next_moment events.now moment.old) }
+    ensures answer { record { answer = result; moment = moment.new } ≡ passed_to moment.old (next_moment events.now moment.old) }
+    ensures later { moment.old ≤ moment.new }
 {
+    next_moment_is_due();
     match events.next_moment(*moment) {
         Some(next) => {
             *moment = next;
@@ -194,6 +196,7 @@ pub fn wait_for_signal(
     ensures ok { IfOk result (λ answer. record { answer = answer; memory = memory.new; events = events.new; moment = moment.new } ≡ wait_for_signal registers.now (see view.now) memory.old events.old moment.old) }
     ensures base { memory.new.base ≡ memory.old.base }
     ensures pages { memory.new.pages ≡ memory.old.pages }
+    ensures later { moment.old ≤ moment.new }
 {
     if !can_wait(registers, view, memory) {
         return Ok(Awaited::Answers(EfiStatus::INVALID_PARAMETER.0));

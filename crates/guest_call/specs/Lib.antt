@@ -1,3 +1,4 @@
 pub mod Arguments
 pub mod Checks
 pub mod Outputs
+pub mod Inputs

@@ -10,7 +10,7 @@ ghost use Rattle.address_view.specs.Stored.{lacks_seen, store_seen, StoreGives};
 ghost use Rattle.guest_call.specs.Outputs.{can_write_optional, optional};
 
 use crate::check::can_write;
-use address_view::{View, put_bytes};
+use address_view::{ByteRange, View, lacks_after, put_bytes};
 use guest_memory::{GuestMemory, PutEnd};
 use std::alloc::AllocError;
 use uh_base::write_number;
@@ -29,6 +29,16 @@ pub fn optional(at: u64, len: u8) -> u8
     ensures { result ≡ optional at len }
 {
     if at == 0 { 0 } else { len }
+}
+
+/// Whether a store of so many bytes would touch more than 65,536 pages.
+#[tactic(auto, unfolding(address_view::specs::Ranges::marked_ranges))]
+pub fn lacks_output(memory: &GuestMemory, view: &View, at: u64, width: u8) -> bool
+    requires { all_pass (is_seen (see view.now) memory.now) at width ≡ true }
+    ensures { result ≡ lacks_seen (see view.now) memory.now at width }
+{
+    let len = u64::from(width);
+    lacks_after(memory, view, &[ByteRange { at, len }])
 }
 
 /// Puts a number of so many bytes where each shows memory, the least byte first, whatever the rights there. `Frames`

@@ -1,4 +1,3 @@
-pub mod GuidLemmas
 pub mod RefusalLemmas
 pub mod PairLemmas
 pub mod WordLemmas

@@ -6,11 +6,12 @@ use Rattle.uh_base.specs.Statuses.{success, unsupported, not_found}
 use Rattle.guest_memory.specs.Pages.{Pages}
 use Rattle.guest_call.specs.Arguments.{argument}
 use Rattle.guest_call.specs.Checks.{can_read, can_write}
+use Rattle.guest_call.specs.Inputs.{guid_seen}
 use Rattle.service_answer.specs.Answers.{gives}
 use Rattle.handle_db.specs.Database.{is_handle, interface_in}
 use Rattle.handle_db.specs.Calls.{first_with}
 use Rattle.protocol_db.specs.Registrations.{Protocols, first_pending, first_taken}
-use Rattle.protocol_services.specs.Outputs.{MemoryDone, ProtocolDone, guid_seen, invalid, number_given, beside, number_and}
+use Rattle.protocol_services.specs.Outputs.{MemoryDone, ProtocolDone, invalid, number_given, beside, number_and}
 
 -- The interface is written, or 0 where there is none.
 abbrev pub interface_told : (ℕ → Option ℕ) → Pages → ℕ → Option ℕ → MemoryDone

@@ -5,12 +5,13 @@ use Rattle.uh_base.specs.Statuses.{success}
 use Rattle.guest_memory.specs.Pages.{Pages}
 use Rattle.guest_call.specs.Arguments.{argument, low_word}
 use Rattle.guest_call.specs.Checks.{can_read, can_write, number_seen}
+use Rattle.guest_call.specs.Inputs.{guid_seen}
 use Rattle.service_answer.specs.Answers.{announces}
 use Rattle.protocol_db.specs.Registrations.{Protocols}
 use Rattle.protocol_db.specs.Calls.{Done, Installation, installation, reinstallation, uninstallation}
 use Rattle.protocol_db.specs.declared.refusal.ProtocolRefusal.{ProtocolRefusal}
 use Rattle.protocol_services.specs.Refusals.{protocol_status}
-use Rattle.protocol_services.specs.Outputs.{ProtocolDone, guid_seen, invalid, refused, number_and}
+use Rattle.protocol_services.specs.Outputs.{ProtocolDone, invalid, refused, number_and}
 
 -- the handle on which an interface is to be installed, a new one for 0
 abbrev pub handle_asked : ℕ → Option ℕ

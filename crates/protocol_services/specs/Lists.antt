@@ -12,6 +12,7 @@ use Rattle.page_alloc.specs.Pages.{PageList}
 use Rattle.pool_alloc.specs.Pool.{BlockPage}
 use Rattle.guest_call.specs.Arguments.{argument, low_word}
 use Rattle.guest_call.specs.Checks.{can_read, can_write}
+use Rattle.guest_call.specs.Inputs.{can_read_optional, guid_seen}
 use Rattle.handle_db.specs.declared.entry.OpenEntry.{OpenEntry}
 use Rattle.handle_db.specs.Database.{is_handle}
 use Rattle.handle_db.specs.Calls.{guids_in}
@@ -21,9 +22,8 @@ use Rattle.protocol_db.specs.declared.refusal.ProtocolRefusal.{ProtocolRefusal}
 use Rattle.protocol_services.specs.declared.outputs.ListOutputs.{ListOutputs}
 use Rattle.service_answer.specs.Answers.{Answer}
 use Rattle.protocol_services.specs.Refusals.{protocol_status}
-use Rattle.protocol_services.specs.Outputs.{guid_seen}
 use Rattle.protocol_services.specs.Blocks.{BlockDone, block_refused, list_given, block_address}
-use Rattle.protocol_services.specs.Searching.{can_read_optional, handles_found, found_taken, is_made, words}
+use Rattle.protocol_services.specs.Searching.{handles_found, found_taken, is_made, words}
 
 -- an entry: agent and controller of eight bytes each, attributes and count of four each
 abbrev pub entry_bytes : OpenEntry → List ℕ

@@ -1,4 +1,4 @@
--- InstallMultipleProtocolInterfaces and UninstallMultipleProtocolInterfaces (UEFI 2.10, sections 7.3.18 and 7.3.19), where
+-- InstallMultipleProtocolInterfaces and UninstallMultipleProtocolInterfaces (UEFI 2.10, sections 7.3.17 and 7.3.18), where
 -- `see` is the place that each address shows and `x` are the registers of the call.
 use Rattle.std.specs.Prelude.{ℕ, List, [], ◌∷◌, Option, Some, None, Result, Ok, Err, if◌then◌else◌}
 use Rattle.uh_base.specs.declared.guid.Guid.{Guid}

@@ -5,6 +5,7 @@ use Rattle.uh_base.specs.Statuses.{success}
 use Rattle.guest_memory.specs.Pages.{Pages}
 use Rattle.guest_call.specs.Arguments.{argument, low_word}
 use Rattle.guest_call.specs.Checks.{can_read}
+use Rattle.guest_call.specs.Inputs.{guid_seen}
 use Rattle.guest_call.specs.Outputs.{can_write_optional, optional}
 use Rattle.protocol_db.specs.declared.request.OpenRequest.{OpenRequest}
 use Rattle.protocol_db.specs.Registrations.{Protocols}
@@ -13,7 +14,7 @@ use Rattle.protocol_db.specs.declared.refusal.ProtocolRefusal.{ProtocolRefusal}
 use Rattle.protocol_db.specs.declared.refusal.ProtocolRefusal.TheVariants.{Invalid, NotFound, Unsupported, AccessDenied, AlreadyStarted, Full, Memory}
 use Rattle.protocol_services.specs.Refusals.{protocol_status}
 use Rattle.service_answer.specs.Answers.{Answer, gives, lacks_frames}
-use Rattle.protocol_services.specs.Outputs.{ProtocolDone, guid_seen, invalid, refused, number_and}
+use Rattle.protocol_services.specs.Outputs.{ProtocolDone, invalid, refused, number_and}
 use Rattle.protocol_services.specs.Installing.{changed}
 
 abbrev pub request_of : List ℕ → (ℕ → Option ℕ) → Pages → OpenRequest

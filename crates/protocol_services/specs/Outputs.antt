@@ -1,11 +1,7 @@
 -- What services on handles and protocols come to, where `see` is the place that each address shows.
 use Rattle.std.specs.Prelude.{ℕ, Option, Result, Ok, Err, if◌then◌else◌}
-use Rattle.uh_base.specs.declared.guid.Guid.{Guid}
-use Rattle.uh_base.specs.Guid.{guid_of}
 use Rattle.uh_base.specs.Statuses.{invalid_parameter}
-use Rattle.guest_memory.specs.Pages.{Pages, bytes_of}
-use Rattle.guest_memory.specs.Runs.{bytes_from}
-use Rattle.address_view.specs.Windows.{seen_bytes}
+use Rattle.guest_memory.specs.Pages.{Pages}
 use Rattle.address_view.specs.Stored.{lacks_seen, store_seen}
 use Rattle.protocol_db.specs.Registrations.{Protocols}
 use Rattle.protocol_db.specs.Calls.{Done}
@@ -23,10 +19,6 @@ pub record ProtocolDone : Type 0 where
   pub answer : Answer
   pub memory : Pages
   pub protocols : Protocols
-
--- the GUID of the sixteen bytes that are seen at an address
-abbrev pub guid_seen : (ℕ → Option ℕ) → Pages → ℕ → Guid
-guid_seen see m at = guid_of (bytes_from (seen_bytes see (bytes_of m)) at 16)
 
 -- A value is given, and nothing changes.
 abbrev pub refused : Pages → Protocols → ℕ → ProtocolDone

@@ -1,5 +1,5 @@
--- The arguments of InstallMultipleProtocolInterfaces and UninstallMultipleProtocolInterfaces (UEFI 2.10, sections 7.3.18 and
--- 7.3.19), which are as many as the caller likes, where `see` is the place that each address shows and `x` are the registers
+-- The arguments of InstallMultipleProtocolInterfaces and UninstallMultipleProtocolInterfaces (UEFI 2.10, sections 7.3.17 and
+-- 7.3.18), which are as many as the caller likes, where `see` is the place that each address shows and `x` are the registers
 -- of the call.
 use Rattle.std.specs.Prelude.{ℕ, zero, suc, ◌+◌, ◌-◌, ◌*◌, ◌==◌, nat_lt, List, [], ◌∷◌, Option, Some, None, slice_index, if◌then◌else◌}
 use Rattle.std.specs.Option.{option_map}
@@ -9,9 +9,9 @@ use Rattle.guest_memory.specs.Pages.{Pages}
 use Rattle.address_view.specs.Seen.{all_pass, is_seen}
 use Rattle.guest_call.specs.Arguments.{argument}
 use Rattle.guest_call.specs.Checks.{can_read, number_seen}
+use Rattle.guest_call.specs.Inputs.{guid_seen}
 use Rattle.protocol_services.specs.declared.pairs.NextPair.{NextPair}
 use Rattle.protocol_services.specs.declared.pairs.NextPair.TheVariants.{Pair, End, Bad}
-use Rattle.protocol_services.specs.Outputs.{guid_seen}
 
 -- the word of eight bytes at an address, where all of it is seen
 abbrev pub word_seen : (ℕ → Option ℕ) → Pages → ℕ → Option ℕ

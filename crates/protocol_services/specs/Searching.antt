@@ -1,4 +1,4 @@
--- LocateHandle (UEFI 2.10, section 7.3.5), where `see` is the place that each address shows and `x` are the registers of the
+-- LocateHandle (UEFI 2.10, section 7.3.6), where `see` is the place that each address shows and `x` are the registers of the
 -- call.
 use Rattle.std.specs.Prelude.{ℕ, ◌*◌, ◌==◌, ◌&&◌, ◌||◌, not, nat_lt, Bool, List, [], ◌∷◌, length, Option, Some, None, if◌then◌else◌}
 use Rattle.std.specs.Int.{w64, to_le_bytes}
@@ -10,10 +10,11 @@ use Rattle.address_view.specs.Ranges.{lacks_ranges}
 use Rattle.address_view.specs.Stored.{store_seen, stored}
 use Rattle.guest_call.specs.Arguments.{argument, low_word}
 use Rattle.guest_call.specs.Checks.{can_read, can_write, can_write_buffer, number_seen}
+use Rattle.guest_call.specs.Inputs.{can_read_optional, guid_seen}
 use Rattle.service_answer.specs.Answers.{Answer, gives, lacks_frames}
 use Rattle.handle_db.specs.Calls.{handles_with}
 use Rattle.protocol_db.specs.Registrations.{Protocols, is_numbered, first_pending, first_taken}
-use Rattle.protocol_services.specs.Outputs.{MemoryDone, ProtocolDone, guid_seen, invalid, number_given}
+use Rattle.protocol_services.specs.Outputs.{MemoryDone, ProtocolDone, invalid, number_given}
 
 abbrev pub one_or_none : Option ℕ → List ℕ
 one_or_none None = []
@@ -39,10 +40,6 @@ handles_found see m p kind guid key =
 -- A handle that was found as pending is pending no more.
 abbrev pub found_taken : Protocols → ℕ → ℕ → Protocols
 found_taken p kind key = if kind == 1 then first_taken p key else p
-
--- An input may be left out at address 0.
-abbrev pub can_read_optional : (ℕ → Option ℕ) → Pages → ℕ → ℕ → Bool
-can_read_optional see m at len = at == 0 || can_read see m at len
 
 -- numbers of eight bytes, the least byte first
 unfoldable pub words : List ℕ → List ℕ

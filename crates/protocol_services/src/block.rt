@@ -13,7 +13,6 @@ ghost use Rattle.pool_alloc.specs.Calls.{Done as PoolDone, pool_allocation, page
 ghost use Rattle.protocol_services.specs.Blocks.{first_value, second_value, opened, with_contents, outputs_written, block_given, none_given, list_given, block_address, IsIn, marks_behind, IsRamView};
 
 use crate::marks::{count_after, page_index};
-use crate::output::{gives, lacks_frames};
 use crate::outputs::ListOutputs;
 use crate::searching::put_buffer;
 use address_view::{ByteRange, View, lacks_after, ranges_suffice};
@@ -21,7 +20,7 @@ use guest_call::put_output;
 use guest_memory::GuestMemory;
 use page_alloc::PageMap;
 use pool_alloc::{PageSpan, Pool, PoolRefusal};
-use service_answer::Served;
+use service_answer::{Served, gives, lacks_frames};
 use std::alloc::{AllocError, Global};
 use uh_base::{EfiStatus, FRAME_LIMIT};
 

@@ -6,12 +6,12 @@ ghost use Rattle.address_view.specs.Windows.{see};
 ghost use Rattle.address_view.specs.Seen.{all_pass, is_seen};
 ghost use Rattle.protocol_services.specs.Finding.{handle_protocol, interface_told, located, taken, locate_protocol};
 
-use crate::output::{give_number, gives, guid_seen, invalid, lacks_frames, lacks_output};
+use crate::output::{give_number, invalid};
 use address_view::View;
-use guest_call::{argument, can_read, can_write, put_output};
+use guest_call::{argument, can_read, can_write, guid_seen, lacks_output, put_output};
 use guest_memory::GuestMemory;
 use protocol_db::Protocols;
-use service_answer::Served;
+use service_answer::{Served, gives, lacks_frames};
 use std::alloc::{AllocError, Global};
 use uh_base::{EfiStatus, Guid};
 

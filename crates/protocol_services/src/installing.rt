@@ -8,13 +8,15 @@ ghost use Rattle.protocol_db.specs.Calls.{installation};
 ghost use Rattle.protocol_services.specs.Outputs.{refusal_for};
 ghost use Rattle.protocol_services.specs.Installing.{handle_asked, installed, install_protocol_interface, reinstall_protocol_interface, uninstall_protocol_interface};
 
-use crate::output::{announces, gives, guid_seen, invalid, lacks_frames, lacks_output};
+use crate::output::invalid;
 use crate::status::{refuse, refuse_surely};
 use address_view::View;
-use guest_call::{argument, can_read, can_write, low_word, number_seen, put_output};
+use guest_call::{
+    argument, can_read, can_write, guid_seen, lacks_output, low_word, number_seen, put_output,
+};
 use guest_memory::GuestMemory;
 use protocol_db::Protocols;
-use service_answer::Served;
+use service_answer::{Served, announces, gives, lacks_frames};
 use std::alloc::{AllocError, Global};
 use uh_base::{EfiStatus, Guid};
 

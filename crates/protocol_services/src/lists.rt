@@ -11,17 +11,17 @@ ghost use Rattle.pool_alloc.specs.Pool.{Together};
 ghost use Rattle.protocol_services.specs.Lists.{entry_bytes, entries_bytes, guid_addresses, guid_list, open_protocol_information, protocols_per_handle, locate_handle_buffer, found_given, buffer_taken};
 
 use crate::block::{block_address, give_list};
-use crate::output::{gives, guid_seen, invalid};
+use crate::output::invalid;
 use crate::outputs::ListOutputs;
-use crate::searching::{can_read_optional, handles_found, is_made, take_found, words};
+use crate::searching::{handles_found, is_made, take_found, words};
 use crate::status::refuse;
 use address_view::View;
-use guest_call::{argument, can_read, can_write, low_word};
+use guest_call::{argument, can_read, can_read_optional, can_write, guid_seen, low_word};
 use guest_memory::GuestMemory;
 use page_alloc::PageMap;
 use pool_alloc::Pool;
 use protocol_db::{OpenEntry, Protocols};
-use service_answer::Served;
+use service_answer::{Served, gives};
 use std::alloc::{AllocError, Global};
 use uh_base::{EfiStatus, Guid};
 

@@ -1,4 +1,4 @@
-//! InstallMultipleProtocolInterfaces and UninstallMultipleProtocolInterfaces (UEFI 2.10, sections 7.3.18 and 7.3.19).
+//! InstallMultipleProtocolInterfaces and UninstallMultipleProtocolInterfaces (UEFI 2.10, sections 7.3.17 and 7.3.18).
 #![tactic(auto)]
 
 ghost use Rattle.std.specs.Prelude.{◌≡◌, ◌∷◌, IfOk, Some, true, length, if◌then◌else◌};
@@ -9,14 +9,14 @@ ghost use Rattle.protocol_services.specs.Outputs.{refusal_for};
 ghost use Rattle.protocol_services.specs.Multiple.{handle_written, all_installed, pairs_installed, install_multiple_protocol_interfaces, uninstall_multiple_protocol_interfaces};
 
 use crate::installing::handle_asked;
-use crate::output::{announces, gives, invalid, lacks_frames, lacks_output};
+use crate::output::invalid;
 use crate::pairs::pairs_of;
 use crate::status::refuse;
 use address_view::View;
-use guest_call::{argument, can_write, number_seen, put_output};
+use guest_call::{argument, can_write, lacks_output, number_seen, put_output};
 use guest_memory::GuestMemory;
 use protocol_db::Protocols;
-use service_answer::Served;
+use service_answer::{Served, announces, gives, lacks_frames};
 use std::alloc::{AllocError, Global};
 use uh_base::{EfiStatus, Guid};
 

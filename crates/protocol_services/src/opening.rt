@@ -11,13 +11,15 @@ ghost use Rattle.protocol_db.specs.Registrations.{Protocols as State};
 ghost use Rattle.protocol_db.specs.declared.refusal.ProtocolRefusal.TheVariants.{Memory};
 ghost use Rattle.protocol_services.specs.Opening.{is_test, tells_none, not_opened, opened, answer_without, may_open, request_of, open_protocol, close_protocol};
 
-use crate::output::{gives, guid_seen, invalid, lacks_frames, lacks_output};
+use crate::output::invalid;
 use crate::status::{refuse, refuse_surely};
 use address_view::View;
-use guest_call::{argument, can_read, can_write_optional, low_word, optional, put_output};
+use guest_call::{
+    argument, can_read, can_write_optional, guid_seen, lacks_output, low_word, optional, put_output,
+};
 use guest_memory::GuestMemory;
 use protocol_db::{OpenRequest, ProtocolRefusal, Protocols};
-use service_answer::Served;
+use service_answer::{Served, gives, lacks_frames};
 use std::alloc::{AllocError, Global};
 use uh_base::EfiStatus;
 

@@ -6,9 +6,8 @@ ghost use Rattle.std.specs.Option.{option_map};
 ghost use Rattle.address_view.specs.Windows.{see};
 ghost use Rattle.protocol_services.specs.Pairs.{word_seen, any_argument, pair_with, next_pair, pairs_of};
 
-use crate::output::guid_seen;
 use address_view::{View, is_seen};
-use guest_call::{argument, can_read, number_seen};
+use guest_call::{argument, can_read, guid_seen, number_seen};
 use guest_memory::GuestMemory;
 use std::alloc::{AllocError, Global};
 use uh_base::Guid;

@@ -1,4 +1,4 @@
-//! LocateHandle (UEFI 2.10, section 7.3.5).
+//! LocateHandle (UEFI 2.10, section 7.3.6).
 #![tactic(auto)]
 
 ghost use Rattle.std.specs.Prelude.{◌≡◌, ◌*◌, IfOk, IsTrue, OnOk, Some, true, false, length, if◌then◌else◌};
@@ -11,27 +11,19 @@ ghost use Rattle.guest_call.specs.Checks.{number_seen};
 ghost use Rattle.guest_call.specs.Outputs.{optional};
 ghost use Rattle.uh_base.specs.Statuses.{buffer_too_small};
 ghost use Rattle.protocol_services.specs.Outputs.{number_given};
-ghost use Rattle.protocol_services.specs.Searching.{one_or_none, pending_for, with_protocol, handles_found, found_taken, can_read_optional, words, handles_told, handles_fitted, handles_given, is_made, locate_handle};
+ghost use Rattle.protocol_services.specs.Searching.{one_or_none, pending_for, with_protocol, handles_found, found_taken, words, handles_told, handles_fitted, handles_given, is_made, locate_handle};
 
-use crate::output::{give_number, gives, guid_seen, invalid, lacks_frames};
+use crate::output::{give_number, invalid};
 use address_view::{ByteRange, View, lacks_after, put_bytes, ranges_suffice};
 use guest_call::{
-    argument, can_read, can_write, can_write_buffer, low_word, number_seen, put_output,
+    argument, can_read_optional, can_write, can_write_buffer, guid_seen, low_word, number_seen,
+    put_output,
 };
 use guest_memory::{GuestMemory, PutEnd};
 use protocol_db::Protocols;
-use service_answer::Served;
+use service_answer::{Served, gives, lacks_frames};
 use std::alloc::{AllocError, Global};
 use uh_base::EfiStatus;
-
-/// Whether an input can be read that is left out where its address is 0.
-#[tactic(auto, unfolding(uh_base::specs::Bytes::first_refused))]
-pub(crate) fn can_read_optional(memory: &GuestMemory, view: &View, at: u64, len: u8) -> bool
-    ensures test { result ≡ can_read_optional (see view.now) memory.now at len }
-    ensures seen { IsTrue result → all_pass (is_seen (see view.now) memory.now) at (optional at len) ≡ true }
-{
-    at == 0 || can_read(memory, view, at, u64::from(len))
-}
 
 /// A handle that is pending, as a list.
 fn one_or_none(alloc: Global, handle: Option<u64>) -> Result<Vec<u64>, AllocError>

@@ -6,9 +6,8 @@ ghost use Rattle.service_answer.specs.Answers.{gives};
 ghost use Rattle.protocol_db.specs.declared.refusal.ProtocolRefusal.TheVariants.{Memory};
 ghost use Rattle.protocol_services.specs.Refusals.{protocol_status};
 
-use crate::output::gives;
 use protocol_db::ProtocolRefusal;
-use service_answer::Served;
+use service_answer::{Served, gives};
 use std::alloc::{AllocError, Global};
 use uh_base::EfiStatus;
 

@@ -10,7 +10,8 @@ use Rattle.guest_call.specs.Arguments.{argument}
 use Rattle.guest_call.specs.Checks.{can_write, can_write_buffer, can_read, number_seen}
 use Rattle.guest_call.specs.Outputs.{can_write_optional}
 use Rattle.runtime_services.specs.declared.get.VariableOutputs.{VariableOutputs}
-use Rattle.runtime_services.specs.Inputs.{string_at, guid_at}
+use Rattle.guest_call.specs.Inputs.{guid_seen}
+use Rattle.runtime_services.specs.Inputs.{string_at}
 use Rattle.runtime_services.specs.Outputs.{OutputBytes, MemoryDone, told, refused, unless_zero}
 
 -- the addresses that a call brings
@@ -41,7 +42,7 @@ abbrev pub variable_named : (ℕ → Option ℕ) → Pages → List Entry → Bo
 variable_named see m entries gone guid o None = refused m invalid_parameter
 variable_named see m entries gone guid o (Some name) =
     if can_read see m guid 16 && are_variable_outputs see m o
-    then variable_if see m o (number_seen see m o.size 8) (entry_at entries (place_of entries name (guid_at see m guid) gone))
+    then variable_if see m o (number_seen see m o.size 8) (entry_at entries (place_of entries name (guid_seen see m guid) gone))
     else refused m invalid_parameter
 
 -- GetVariable(name, *guid16, ?attributes4, *size8, buffer)

@@ -1,11 +1,8 @@
--- What a call brings in memory, where `see` is the place that each address shows: strings of 16-bit units, which end
--- with a unit of 0 (UEFI 2.10, section 2.3.1, CHAR16), and GUIDs.
+-- Strings that a call brings, of 16-bit units, which end with a unit of 0 (UEFI 2.10, section 2.3.1, CHAR16), where `see`
+-- is the place that each address shows.
 use Rattle.std.specs.Prelude.{ℕ, zero, suc, ◌==◌, Bool, true, false, List, [], ◌∷◌, Option, Some, None, option_map, if◌then◌else◌}
-use Rattle.uh_base.specs.declared.guid.Guid.{Guid}
-use Rattle.uh_base.specs.Guid.{guid_of}
 use Rattle.uh_base.specs.Bytes.{behind, number_at}
 use Rattle.guest_memory.specs.Pages.{Pages, bytes_of, rights_at}
-use Rattle.guest_memory.specs.Runs.{bytes_from}
 use Rattle.rv_step.specs.declared.bus.Access.TheVariants.{Store}
 use Rattle.address_view.specs.Windows.{seen_bytes}
 use Rattle.address_view.specs.Seen.{all_pass, is_seen, view_allows}
@@ -29,10 +26,3 @@ string_test false see m = is_seen see m
 -- the string at an address that isn't 0
 abbrev pub string_at : Bool → (ℕ → Option ℕ) → Pages → ℕ → Option (List ℕ)
 string_at written see m at = if at == 0 then None else string_from (string_test written see m) (seen_bytes see (bytes_of m)) most_units at
-
--- the sixteen bytes, and the GUID, at an address
-abbrev pub sixteen_at : (ℕ → Option ℕ) → Pages → ℕ → List ℕ
-sixteen_at see m at = bytes_from (seen_bytes see (bytes_of m)) at 16
-
-abbrev pub guid_at : (ℕ → Option ℕ) → Pages → ℕ → Guid
-guid_at see m at = guid_of (sixteen_at see m at)

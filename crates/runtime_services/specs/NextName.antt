@@ -13,7 +13,8 @@ use Rattle.variable_store.specs.declared.refusal.VarRefusal.{VarRefusal}
 use Rattle.guest_call.specs.Arguments.{argument}
 use Rattle.guest_call.specs.Checks.{can_write, can_write_buffer, number_seen}
 use Rattle.runtime_services.specs.declared.next_name.NameOutputs.{NameOutputs}
-use Rattle.runtime_services.specs.Inputs.{string_at, guid_at}
+use Rattle.guest_call.specs.Inputs.{guid_seen}
+use Rattle.runtime_services.specs.Inputs.{string_at}
 use Rattle.runtime_services.specs.Outputs.{OutputBytes, MemoryDone, told, refused}
 use Rattle.runtime_services.specs.Refusals.{variable_status}
 
@@ -54,7 +55,7 @@ abbrev pub next_named : (ℕ → Option ℕ) → Pages → List Entry → Bool �
 next_named see m entries gone o None = refused m invalid_parameter
 next_named see m entries gone o (Some name) =
     if can_write see m o.size 8 && can_write see m o.guid 16
-    then next_if see m entries o (number_seen see m o.size 8) (next_of entries name (guid_at see m o.guid) gone)
+    then next_if see m entries o (number_seen see m o.size 8) (next_of entries name (guid_seen see m o.guid) gone)
     else refused m invalid_parameter
 
 -- GetNextVariableName(*size8, name, *guid16): each byte of the name up to its end may be written

@@ -12,7 +12,8 @@ use Rattle.variable_store.specs.declared.refusal.VarRefusal.{VarRefusal}
 use Rattle.guest_call.specs.Arguments.{argument, low_word}
 use Rattle.guest_call.specs.Checks.{can_read, can_read_buffer}
 use Rattle.runtime_services.specs.declared.set.GivenData.{GivenData}
-use Rattle.runtime_services.specs.Inputs.{string_at, guid_at}
+use Rattle.guest_call.specs.Inputs.{guid_seen}
+use Rattle.runtime_services.specs.Inputs.{string_at}
 use Rattle.runtime_services.specs.Refusals.{variable_status}
 
 -- the attributes and the bytes that a call brings
@@ -42,7 +43,7 @@ set_given see m entries gone name vendor given = set_unless (refusal_of entries 
 abbrev pub set_named : (ℕ → Option ℕ) → Pages → List Entry → Bool → ℕ → GivenData → Option (List ℕ) → VariablesDone
 set_named see m entries gone guid given None = record { status = invalid_parameter; variables = entries }
 set_named see m entries gone guid given (Some name) =
-    if can_read see m guid 16 then set_given see m entries gone name (guid_at see m guid) given else record { status = invalid_parameter; variables = entries }
+    if can_read see m guid 16 then set_given see m entries gone name (guid_seen see m guid) given else record { status = invalid_parameter; variables = entries }
 
 -- SetVariable(name, *guid16, attributes, size, buffer)
 unfoldable pub set_variable : List ℕ → (ℕ → Option ℕ) → Pages → List Entry → Bool → VariablesDone

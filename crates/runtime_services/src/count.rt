@@ -7,12 +7,11 @@ ghost use Rattle.guest_memory.specs.Changes.{TouchedBesides};
 ghost use Rattle.address_view.specs.Windows.{see};
 ghost use Rattle.runtime_services.specs.Counts.{get_next_monotonic_count, get_next_high_monotonic_count};
 
-use crate::answer::gives;
 use crate::output::{Output, tell};
 use address_view::View;
 use guest_call::{argument, can_write};
 use guest_memory::GuestMemory;
-use service_answer::Served;
+use service_answer::{Served, gives};
 use std::alloc::{AllocError, Global};
 use uh_base::EfiStatus;
 

@@ -13,15 +13,14 @@ ghost use Rattle.guest_call.specs.Outputs.{optional};
 ghost use Rattle.runtime_services.specs.Outputs.{told, unless_zero};
 ghost use Rattle.runtime_services.specs.GetVariable.{variable_outputs, are_variable_outputs, sizes_of, variable_given, get_variable};
 
-use crate::answer::gives;
-use crate::input::{read_guid, read_string};
+use crate::input::read_string;
 use crate::output::{Output, tell, unless_zero};
 use address_view::View;
 use guest_call::{
-    argument, can_read, can_write, can_write_buffer, can_write_optional, number_seen,
+    argument, can_read, can_write, can_write_buffer, can_write_optional, guid_seen, number_seen,
 };
 use guest_memory::GuestMemory;
-use service_answer::Served;
+use service_answer::{Served, gives};
 use std::alloc::{AllocError, Global};
 use uh_base::EfiStatus;
 use variable_store::{Variable, Variables};
@@ -222,7 +221,7 @@ pub(crate) fn get_variable(
     if !can_read(memory, view, guid, 16) || !are_variable_outputs(memory, view, outputs) {
         return Ok(gives(alloc, EfiStatus::INVALID_PARAMETER.0));
     }
-    let vendor = read_guid(alloc, memory, view, guid)?;
+    let vendor = guid_seen(alloc, memory, view, guid)?;
     match variables.find(name.as_slice(), &vendor, gone) {
         Some(place) => match variables.at(place) {
             Some(variable) => give_variable(alloc, view, memory, outputs, variable),

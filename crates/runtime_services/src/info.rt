@@ -8,12 +8,11 @@ ghost use Rattle.address_view.specs.Windows.{see};
 ghost use Rattle.address_view.specs.Seen.{all_pass, is_seen};
 ghost use Rattle.runtime_services.specs.VariableInfo.{info_outputs, are_info_outputs, has_unknown_bits, lacks_kept_bits, info_told, query_variable_info};
 
-use crate::answer::gives;
 use crate::output::{Output, tell};
 use address_view::View;
 use guest_call::{argument, can_write, low_word};
 use guest_memory::GuestMemory;
-use service_answer::Served;
+use service_answer::{Served, gives};
 use std::alloc::{AllocError, Global};
 use uh_base::EfiStatus;
 use variable_store::Variables;

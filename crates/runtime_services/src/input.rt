@@ -1,51 +1,18 @@
-//! What a call brings in memory.
+//! Strings that a call brings.
 #![tactic(auto)]
 
-ghost use Rattle.std.specs.Prelude.{◌≡◌, IfOk, IfSome, true, option_map};
+ghost use Rattle.std.specs.Prelude.{◌≡◌, IfOk, option_map};
 ghost use Rattle.guest_memory.specs.Pages.{bytes_of};
-ghost use Rattle.guest_memory.specs.Runs.{bytes_from};
 ghost use Rattle.address_view.specs.Windows.{see, seen_bytes};
-ghost use Rattle.address_view.specs.Seen.{all_pass, is_seen};
-ghost use Rattle.runtime_services.specs.Inputs.{guid_at, string_test, string_from, string_at};
+ghost use Rattle.address_view.specs.Seen.{all_pass};
+ghost use Rattle.runtime_services.specs.Inputs.{string_test, string_from, string_at};
 
-use address_view::{View, allowed, is_seen, load_bytes, number_slowly};
+use address_view::{View, allowed, is_seen, number_slowly};
 use guest_memory::GuestMemory;
 use std::alloc::{AllocError, Global};
-use uh_base::Guid;
 
 /// The most units of a string, with the one of 0 that ends it.
 const MOST_UNITS: u32 = 4096;
-
-/// The sixteen bytes that are seen at an address, each of them at a page of memory.
-#[tactic(auto, unfolding(guest_memory::specs::Runs::bytes_from))]
-pub(crate) fn sixteen_bytes(
-    alloc: Global,
-    memory: &GuestMemory,
-    view: &View,
-    at: u64,
-) -> Result<[u8; 16], AllocError>
-    requires { all_pass (is_seen (see view.now) memory.now) at 16 ≡ true }
-    ensures { IfOk result (λ bytes. bytes ≡ bytes_from (seen_bytes (see view.now) (bytes_of memory.now)) at 16) }
-{
-    let loaded = load_bytes(alloc, memory, view, at, 16)?;
-    let mut bytes = [0; 16];
-    bytes.copy_from_slice(loaded.as_slice());
-    Ok(bytes)
-}
-
-/// The GUID at an address, each byte of which is seen at a page of memory.
-pub(crate) fn read_guid(
-    alloc: Global,
-    memory: &GuestMemory,
-    view: &View,
-    at: u64,
-) -> Result<Guid, AllocError>
-    requires { all_pass (is_seen (see view.now) memory.now) at 16 ≡ true }
-    ensures { IfOk result (λ guid. guid ≡ guid_at (see view.now) memory.now at) }
-{
-    let bytes = sixteen_bytes(alloc, memory, view, at)?;
-    Ok(Guid::from_bytes(&bytes))
-}
 
 /// Whether both bytes of a unit are seen, and may be written where that is asked.
 fn unit_passes(memory: &GuestMemory, view: &View, at: u64, written: bool) -> bool

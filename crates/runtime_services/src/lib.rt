@@ -2,7 +2,6 @@
 //! (section 7.5.5): each over the parts of a machine that it reads or changes.
 #![tactic(auto)]
 
-mod answer;
 mod capsule;
 mod count;
 mod get;

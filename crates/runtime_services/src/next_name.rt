@@ -12,14 +12,13 @@ ghost use Rattle.runtime_services.specs.NextName.{name_outputs, name_bytes, name
 ghost use Rattle.runtime_services.specs.Outputs.{told};
 ghost use Rattle.uh_base.specs.Statuses.{success};
 
-use crate::answer::gives;
-use crate::input::{read_guid, read_string};
+use crate::input::read_string;
 use crate::output::{Output, tell};
 use crate::status::variable_status;
 use address_view::View;
-use guest_call::{argument, can_write, can_write_buffer, number_seen};
+use guest_call::{argument, can_write, can_write_buffer, guid_seen, number_seen};
 use guest_memory::GuestMemory;
-use service_answer::Served;
+use service_answer::{Served, gives};
 use std::alloc::{AllocError, Global};
 use uh_base::{EfiStatus, Guid};
 use variable_store::{Variable, Variables};
@@ -222,7 +221,7 @@ pub(crate) fn get_next_variable_name(
     if !can_write(memory, view, outputs.size, 8) || !can_write(memory, view, outputs.guid, 16) {
         return Ok(gives(alloc, EfiStatus::INVALID_PARAMETER.0));
     }
-    let vendor = read_guid(alloc, memory, view, outputs.guid)?;
+    let vendor = guid_seen(alloc, memory, view, outputs.guid)?;
     match variables.next_index(name.as_slice(), &vendor, gone) {
         Err(refusal) => Ok(gives(alloc, variable_status(refusal))),
         Ok(None) => Ok(gives(alloc, EfiStatus::NOT_FOUND.0)),

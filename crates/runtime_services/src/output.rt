@@ -8,12 +8,11 @@ ghost use Rattle.address_view.specs.Windows.{see};
 ghost use Rattle.address_view.specs.Ranges.{lacks_ranges, marked_ranges};
 ghost use Rattle.runtime_services.specs.Outputs.{range_of, unless_zero, outputs_written, told, OutputsSeen, OutputsTouched};
 
-use crate::answer::{gives, lacks_frames};
 use address_view::{
     ByteRange, View, lacks_after, put_touched, ranges_suffice, touch_bytes, touched_pages_suffice,
 };
 use guest_memory::{GuestMemory, PutEnd};
-use service_answer::Served;
+use service_answer::{Served, gives, lacks_frames};
 use std::alloc::{AllocError, Global};
 use std::marker::Model;
 

@@ -8,7 +8,6 @@ ghost use Rattle.address_view.specs.Windows.{see};
 ghost use Rattle.runtime_services.specs.Slots.{service_of};
 ghost use Rattle.runtime_services.specs.Serving.{serve_runtime, served_by};
 
-use crate::answer::gives;
 use crate::capsule::{query_capsule_capabilities, update_capsule};
 use crate::count::{get_next_high_monotonic_count, get_next_monotonic_count};
 use crate::get::get_variable;
@@ -20,7 +19,7 @@ use crate::time::{get_time, get_wakeup_time, set_time, set_wakeup_time};
 use address_view::View;
 use guest_memory::GuestMemory;
 use rv_step::Regs;
-use service_answer::Served;
+use service_answer::{Served, gives};
 use std::alloc::{AllocError, Global};
 use time_service::Clock;
 use variable_store::Variables;

@@ -7,10 +7,10 @@ ghost use Rattle.address_view.specs.Seen.{all_pass, is_seen};
 ghost use Rattle.guest_call.specs.Checks.{can_read_buffer};
 ghost use Rattle.runtime_services.specs.SetVariable.{given_of, set_given, set_variable};
 
-use crate::input::{read_guid, read_string};
+use crate::input::read_string;
 use crate::status::variable_status;
 use address_view::{View, load_bytes};
-use guest_call::{argument, can_read, can_read_buffer, low_word};
+use guest_call::{argument, can_read, can_read_buffer, guid_seen, low_word};
 use guest_memory::GuestMemory;
 use std::alloc::{AllocError, Global};
 use uh_base::{EfiStatus, Guid};
@@ -138,7 +138,7 @@ pub(crate) fn set_variable(
     if !can_read(memory, view, guid, 16) {
         return Ok(EfiStatus::INVALID_PARAMETER.0);
     }
-    let vendor = read_guid(alloc, memory, view, guid)?;
+    let vendor = guid_seen(alloc, memory, view, guid)?;
     let given = given_of(registers);
     set_given(
         alloc,

@@ -9,13 +9,11 @@ ghost use Rattle.address_view.specs.Seen.{all_pass, is_seen};
 ghost use Rattle.guest_call.specs.Outputs.{optional};
 ghost use Rattle.runtime_services.specs.TimeServices.{get_time, time_given, set_time, get_wakeup_time, set_wakeup_time};
 
-use crate::answer::gives;
-use crate::input::sixteen_bytes;
 use crate::output::{Output, tell, unless_zero};
 use address_view::View;
-use guest_call::{argument, can_read, can_write, can_write_optional};
+use guest_call::{argument, can_read, can_write, can_write_optional, sixteen_seen};
 use guest_memory::GuestMemory;
-use service_answer::Served;
+use service_answer::{Served, gives};
 use std::alloc::{AllocError, Global};
 use time_service::{Clock, EfiTime};
 use uh_base::EfiStatus;
@@ -98,7 +96,7 @@ pub(crate) fn set_time(
     if !can_read(memory, view, at, 16) {
         return Ok(EfiStatus::INVALID_PARAMETER.0);
     }
-    let bytes = sixteen_bytes(alloc, memory, view, at)?;
+    let bytes = sixteen_seen(alloc, memory, view, at)?;
     match EfiTime::read(&bytes) {
         Some(time) => {
             clock.set(now, &time);
