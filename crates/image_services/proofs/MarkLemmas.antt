@@ -1,12 +1,13 @@
 -- Marks of pages.
 use Rattle.std.proofs.Common.{◌≡◌, ℕ, zero, suc, ◌+◌, ◌-◌, ◌<◌, ◌≤◌, Bool, true, false, cond, List, [], ◌∷◌, ◌++◌, length, get_or, take, drop, replicate, refl, sym, ap, ◌∙◌, arith, length-append, length-drop}
-use Rattle.std.specs.Prelude.{◌&&◌, nat_le, nat_lt, slice_get}
+use Rattle.std.specs.Prelude.{◌&&◌, nat_le, nat_lt, slice_get, slice_set}
 use Rattle.std.proofs.lemmas.Bool.Decides.{nat_tests}
 use Rattle.std.proofs.lemmas.List.{length-replicate, length-take, take-append-drop, places}
 use borrow.Rule.Slice.PartMut.{put_mid}
 use Rattle.guest_memory.specs.Lists.{count_true, filled}
 use Rattle.guest_memory.specs.Pages.{Pages, Whole, is_touched, or_false}
 use Rattle.guest_memory.specs.Changes.{TouchedBesides, reserved}
+use Rattle.image_services.specs.Loads.{also_marked}
 
 pub part_filled : (xs part : List Bool) (i last n k : ℕ) → last ≡ i + n → k ≡ n → part ≡ replicate k true → put_mid i (last - i) xs part ≡ filled xs i n true
 part_filled xs part i last n k l m e = let d : last - i ≡ n = omega arith in rw (d, e, m) refl
@@ -111,3 +112,24 @@ block_marked old touched written marks block first count n page e w m same at b 
     kept_filled (filled old block 1 true) first count block (omega arith) (in_filled old block 1 block b (omega arith) (omega arith)) in
     let all : marks ≡ filled (filled old block 1 true) first count true = m ∙ w ∙ all_marked old touched block first count n e same b f ∙ e in
     rw (all, at) set
+
+-- ---- marks of some pages besides
+
+pub set_more : (marks : List Bool) (i : ℕ) → count_true marks ≤ count_true (slice_set marks i true)
+unfolding count_true
+set_more [] i = omega arith
+set_more (true ∷ marks) zero = omega arith
+set_more (false ∷ marks) zero = omega arith
+set_more (true ∷ marks) (suc i) = let h = set_more marks i in omega arith
+set_more (false ∷ marks) (suc i) = set_more marks i
+
+pub also_more : (marks : List Bool) (also : List ℕ) → count_true marks ≤ count_true (also_marked marks also)
+unfolding also_marked
+also_more marks [] = omega arith
+also_more marks (page ∷ pages) = let a = set_more marks page in let b = also_more (slice_set marks page true) pages in omega arith
+
+-- a mark that is set again
+pub set_again : (marks : List Bool) (i : ℕ) → or_false (slice_get marks i) ≡ true → slice_set marks i true ≡ marks
+set_again [] i h = refl
+set_again (mark ∷ marks) zero h = ap (λ m. m ∷ marks) (sym h)
+set_again (mark ∷ marks) (suc i) h = ap (λ ms. mark ∷ ms) (set_again marks i h)

@@ -24,7 +24,7 @@ use Rattle.image_services.specs.Blocks.{loaded_image_protocol}
 use Rattle.image_services.specs.Images.{Loaded, has_handle, find_image, without_image, started_at, with_started, most_images}
 use Rattle.image_services.specs.Stores.{Store}
 use Rattle.image_services.specs.Placing.{moved, displacement}
-use Rattle.image_services.specs.Loads.{FileImage, Place, Load, place_for, lacks_frames, loaded_image, with_loaded, read_file, stored_by, stored, loaded_file, load_of}
+use Rattle.image_services.specs.Loads.{FileImage, Place, Load, place_for, lacks_frames, loaded_image, with_loaded, read_file, stored_by, stored, loaded_file, load_counting}
 use Rattle.image_services.specs.Unloads.{without_loaded, discarded}
 use Rattle.image_services.specs.Laws.{AreInOrder, IsInOrder, OrderStays}
 
@@ -119,9 +119,9 @@ bound : {E A B : Type 0} (r : Result A E) (f : A → Result B E) (b : B) (P : Ty
 bound (Ok a) f b P e k = k a e
 bound (Err x) f b P e k = let bad : ⊥ = cc in absurd bad
 
-goes : (layout : Layout) (s : Store) (parent : ℕ) (image : Fields) (place : Place) (bytes : List ℕ) (sites : List Site) (load : Load) → IsInOrder s → stored layout s parent image place bytes sites ≡ Ok load → Goes load
+goes : (layout : Layout) (s : Store) (parent : ℕ) (also : List ℕ) (image : Fields) (place : Place) (bytes : List ℕ) (sites : List Site) (load : Load) → IsInOrder s → stored layout s parent also image place bytes sites ≡ Ok load → Goes load
 unfolding stored installation handle_installation
-goes layout s parent image place bytes sites load all e = by (is_full s.protocols.handles) e
+goes layout s parent also image place bytes sites load all e = by (is_full s.protocols.handles) e
   where
     done : Done Installation
     done = announced s.protocols (with_handle s.protocols.handles loaded_image_protocol place.block) (shown (s.protocols.handles.made + 1)) loaded_image_protocol
@@ -138,30 +138,30 @@ goes layout s parent image place bytes sites load all e = by (is_full s.protocol
           found = ap is_some (last_found s.images new (below s.images new s.protocols.handles.made all refl));
         })
 
-    by : (full : Bool) → stored_by layout s parent image place bytes sites (installed s.protocols loaded_image_protocol (if full then Err handle.Full else Ok (record { handle = shown (s.protocols.handles.made + 1); database = with_handle s.protocols.handles loaded_image_protocol place.block }))) ≡ Ok load → Goes load
+    by : (full : Bool) → stored_by layout s parent also image place bytes sites (installed s.protocols loaded_image_protocol (if full then Err handle.Full else Ok (record { handle = shown (s.protocols.handles.made + 1); database = with_handle s.protocols.handles loaded_image_protocol place.block }))) ≡ Ok load → Goes load
     by true h = let bad : ⊥ = cc in absurd bad
-    by false h = held (lacks_frames s.memory place image) h
+    by false h = held (lacks_frames s.memory place image also) h
 
-file_goes : (layout : Layout) (s : Store) (parent : ℕ) (file : FileImage) (load : Load) → IsInOrder s → loaded_file layout s parent file ≡ Ok load → Goes load
+file_goes : (layout : Layout) (s : Store) (parent : ℕ) (also : List ℕ) (file : FileImage) (load : Load) → IsInOrder s → loaded_file layout s parent also file ≡ Ok load → Goes load
 unfolding loaded_file
-file_goes layout s parent file load all e =
+file_goes layout s parent also file load all e =
     bound (place_for s.pages s.pool file.image) _ load (Goes load) e
-    (λ place h. bound (moved file.bytes file.sites (displacement file.image.image_base place.base)) _ load (Goes load) h (λ bytes h'. goes layout s parent file.image place bytes file.sites load all h'))
+    (λ place h. bound (moved file.bytes file.sites (displacement file.image.image_base place.base)) _ load (Goes load) h (λ bytes h'. goes layout s parent also file.image place bytes file.sites load all h'))
 
-load_goes : (layout : Layout) (s : Store) (file : List ℕ) (parent : ℕ) (load : Load) → IsInOrder s → load_of layout s file parent ≡ Ok load → Goes load
-unfolding load_of
-load_goes layout s file parent load all e = by (nat_lt (length s.images) most_images) e
+load_goes : (layout : Layout) (s : Store) (file : List ℕ) (parent : ℕ) (also : List ℕ) (load : Load) → IsInOrder s → load_counting layout s file parent also ≡ Ok load → Goes load
+unfolding load_counting
+load_goes layout s file parent also load all e = by (nat_lt (length s.images) most_images) e
   where
-    by : (room : Bool) → (if room then read_file file >>= loaded_file layout s parent else Err refusals.TooMany) ≡ Ok load → Goes load
-    by true h = bound (read_file file) (loaded_file layout s parent) load (Goes load) h (λ image h'. file_goes layout s parent image load all h')
+    by : (room : Bool) → (if room then read_file file >>= loaded_file layout s parent also else Err refusals.TooMany) ≡ Ok load → Goes load
+    by true h = bound (read_file file) (loaded_file layout s parent also) load (Goes load) h (λ image h'. file_goes layout s parent also image load all h')
     by false h = let bad : ⊥ = cc in absurd bad
 
 pub order_stays : OrderStays
 order_stays = record {
   first = λ count. record { rise = λ i j d l k. absurd (omega (arith, k)); made = λ k d i. absurd (omega (arith, i)) };
   more = more;
-  load = λ layout s file parent load all e. (load_goes layout s file parent load all e).order;
-  found = λ layout s file parent load all e. (load_goes layout s file parent load all e).found;
+  load = λ layout s file parent also load all e. (load_goes layout s file parent also load all e).order;
+  found = λ layout s file parent also load all e. (load_goes layout s file parent also load all e).found;
   start = start;
   discard = discard;
 }

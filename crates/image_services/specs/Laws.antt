@@ -5,7 +5,7 @@ use Rattle.std.specs.Option.{is_some}
 use Rattle.page_alloc.specs.declared.layout.Layout.{Layout}
 use Rattle.image_services.specs.Images.{Loaded, find_image, with_started}
 use Rattle.image_services.specs.Stores.{Store}
-use Rattle.image_services.specs.Loads.{Load, load_of}
+use Rattle.image_services.specs.Loads.{Load, load_counting}
 use Rattle.image_services.specs.Unloads.{discarded}
 use Rattle.image_services.specs.Blocks.{block_size, word, pointer, code_type, data_type, block_bytes}
 
@@ -41,7 +41,7 @@ IsInOrder s = AreInOrder s.images s.protocols.handles.made
 pub record OrderStays : Type 0 where
   pub first : (count : ℕ) → AreInOrder [] count
   pub more : (images : List Loaded) (count later : ℕ) → AreInOrder images count → count ≤ later → AreInOrder images later
-  pub load : (layout : Layout) (s : Store) (file : List ℕ) (parent : ℕ) (load : Load) → IsInOrder s → load_of layout s file parent ≡ Ok load → IsInOrder load.after
-  pub found : (layout : Layout) (s : Store) (file : List ℕ) (parent : ℕ) (load : Load) → IsInOrder s → load_of layout s file parent ≡ Ok load → is_some (find_image load.after.images load.answer.handle) ≡ true
+  pub load : (layout : Layout) (s : Store) (file : List ℕ) (parent : ℕ) (also : List ℕ) (load : Load) → IsInOrder s → load_counting layout s file parent also ≡ Ok load → IsInOrder load.after
+  pub found : (layout : Layout) (s : Store) (file : List ℕ) (parent : ℕ) (also : List ℕ) (load : Load) → IsInOrder s → load_counting layout s file parent also ≡ Ok load → is_some (find_image load.after.images load.answer.handle) ≡ true
   pub start : (images : List Loaded) (count handle : ℕ) → AreInOrder images count → AreInOrder (with_started images handle) count
   pub discard : (s : Store) (handle : ℕ) → IsInOrder s → IsInOrder (discarded s handle)

@@ -1,5 +1,5 @@
 -- How an image file is loaded (UEFI 2.10, 7.4: LoadImage).
-use Rattle.std.specs.Prelude.{ℕ, ◌+◌, ◌-◌, ◌*◌, nat_lt, Bool, false, List, [], ◌∷◌, ◌++◌, length, Option, Some, None, Result, Ok, Err, if◌then◌else◌}
+use Rattle.std.specs.Prelude.{ℕ, ◌+◌, ◌-◌, ◌*◌, nat_lt, Bool, true, false, List, [], ◌∷◌, ◌++◌, length, slice_set, Option, Some, None, Result, Ok, Err, if◌then◌else◌}
 use Rattle.uh_base.specs.Answers.{◌>>=◌}
 use Rattle.uh_base.specs.Limits.{frame_limit}
 use Rattle.guest_memory.specs.Lists.{count_true}
@@ -122,9 +122,17 @@ loaded_image place image bytes sites handle = record {
   words = words_of bytes sites;
 }
 
--- Only so many pages are touched in all.
-abbrev pub lacks_frames : Pages → Place → Fields → Bool
-lacks_frames m place image = nat_lt frame_limit (count_true (touched_for m place image).touched)
+-- marks of pages, with those of some pages besides, each by its number from the base
+unfoldable pub also_marked : List Bool → List ℕ → List Bool
+also_marked marks [] = marks
+also_marked marks (page ∷ pages) = also_marked (slice_set marks page true) pages
+
+-- Only so many pages are touched in all, those counted that are touched next.
+abbrev pub lacks_also : Pages → List ℕ → Bool
+lacks_also m also = nat_lt frame_limit (count_true (also_marked m.touched also))
+
+abbrev pub lacks_frames : Pages → Place → Fields → List ℕ → Bool
+lacks_frames m place image also = lacks_also (touched_for m place image) also
 
 -- a load: the image's handle with the events that are to be signalled, in order, and the store behind
 pub record Load : Type 0 where
@@ -143,22 +151,27 @@ with_loaded layout s parent image place bytes sites done = record {
   };
 }
 
-abbrev pub stored_by : Layout → Store → ℕ → Fields → Place → List ℕ → List Site → Result (ProtocolsDone Installation) ProtocolRefusal → Result Load LoadRefusal
-stored_by layout s parent image place bytes sites (Ok done) = if lacks_frames s.memory place image then Err refusals.Frames else Ok (with_loaded layout s parent image place bytes sites done)
-stored_by layout s parent image place bytes sites (Err refusal) = Err refusals.Full
+abbrev pub stored_by : Layout → Store → ℕ → List ℕ → Fields → Place → List ℕ → List Site → Result (ProtocolsDone Installation) ProtocolRefusal → Result Load LoadRefusal
+stored_by layout s parent also image place bytes sites (Ok done) = if lacks_frames s.memory place image also then Err refusals.Frames else Ok (with_loaded layout s parent image place bytes sites done)
+stored_by layout s parent also image place bytes sites (Err refusal) = Err refusals.Full
 
 -- The image's handle is a new one, on which the loaded image protocol is installed; the interface is the block's address.
 -- That is refused only where there are no more handles.
-unfoldable pub stored : Layout → Store → ℕ → Fields → Place → List ℕ → List Site → Result Load LoadRefusal
-stored layout s parent image place bytes sites = stored_by layout s parent image place bytes sites (installation s.protocols None loaded_image_protocol place.block)
+unfoldable pub stored : Layout → Store → ℕ → List ℕ → Fields → Place → List ℕ → List Site → Result Load LoadRefusal
+stored layout s parent also image place bytes sites = stored_by layout s parent also image place bytes sites (installation s.protocols None loaded_image_protocol place.block)
 
-unfoldable pub loaded_file : Layout → Store → ℕ → FileImage → Result Load LoadRefusal
-loaded_file layout s parent file = do
+unfoldable pub loaded_file : Layout → Store → ℕ → List ℕ → FileImage → Result Load LoadRefusal
+loaded_file layout s parent also file = do
   place ← place_for s.pages s.pool file.image
   bytes ← moved file.bytes file.sites (displacement file.image.image_base place.base)
-  stored layout s parent file.image place bytes file.sites
+  stored layout s parent also file.image place bytes file.sites
 
--- A file is loaded for a parent, or refused, and then nothing changes.
-unfoldable pub load_of : Layout → Store → List ℕ → ℕ → Result Load LoadRefusal
-load_of layout s file parent =
-    if nat_lt (length s.images) most_images then read_file file >>= loaded_file layout s parent else Err refusals.TooMany
+-- A file is loaded for a parent, or refused, and then nothing changes. Pages that its caller touches next, as those of an
+-- output, are counted with the load's own.
+unfoldable pub load_counting : Layout → Store → List ℕ → ℕ → List ℕ → Result Load LoadRefusal
+load_counting layout s file parent also =
+    if nat_lt (length s.images) most_images then read_file file >>= loaded_file layout s parent also else Err refusals.TooMany
+
+-- the same with no other pages
+abbrev pub load_of : Layout → Store → List ℕ → ℕ → Result Load LoadRefusal
+load_of layout s file parent = load_counting layout s file parent []

@@ -17,6 +17,6 @@ mod writing;
 pub use images::{Images, Loaded};
 pub use installing::LOADED_IMAGE_PROTOCOL;
 pub use laws::{fields_stand_at_their_offsets, images_stay_in_order};
-pub use load::load_image;
+pub use load::{load_image, load_image_counting};
 pub use refusal::{LoadRefusal, UnloadRefusal};
 pub use unload::{discard_image, unload_image};

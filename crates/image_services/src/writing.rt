@@ -90,6 +90,7 @@ fn write_bytes(memory: &mut GuestMemory, first: u32, bytes: &[u8])
     ensures gives { memory.new ≡ written_pages memory.old first bytes.now }
     ensures base { memory.new.base ≡ memory.old.base }
     ensures pages { memory.new.pages ≡ memory.old.pages }
+    ensures same { memory.new.touched ≡ memory.old.touched }
 {
     memory.whole();
     match memory.write_pages(first, bytes) {
@@ -99,6 +100,7 @@ fn write_bytes(memory: &mut GuestMemory, first: u32, bytes: &[u8])
 }
 
 /// Puts bytes into a page that is touched.
+#[tactic(auto, using(crate::proofs::MarkLemmas::set_again))]
 fn put_bytes(memory: &mut GuestMemory, at: u64, bytes: &[u8])
     requires inside { InPage memory.old at (length bytes.now) }
     requires some { 1 ≤ length bytes.now }
@@ -106,6 +108,7 @@ fn put_bytes(memory: &mut GuestMemory, at: u64, bytes: &[u8])
     ensures gives { memory.new ≡ put_part memory.old at bytes.now }
     ensures base { memory.new.base ≡ memory.old.base }
     ensures pages { memory.new.pages ≡ memory.old.pages }
+    ensures same { memory.new.touched ≡ memory.old.touched }
 {
     match memory.put_part(at, bytes) {
         Ok(()) => {}
@@ -137,6 +140,7 @@ pub(crate) fn write_loaded(
     ensures installed { IfOk result (λ installed. installation protocols.old None loaded_image_protocol claim.now.block ≡ Ok (record { answer = installed; after = protocols.new })) }
     ensures kept { OnErr result (protocols.new ≡ protocols.old) }
     ensures ok { OnOk result (memory.new ≡ loaded_memory memory.old (place_by claim.now) (fields_of image.now) bytes.now block.now) }
+    ensures touched { OnOk result (memory.new.touched ≡ (touched_for memory.old (place_by claim.now) (fields_of image.now)).touched) }
     ensures err { OnErr result (TouchedBesides memory.old memory.new) }
     ensures base { memory.new.base ≡ memory.old.base }
     ensures pages { memory.new.pages ≡ memory.old.pages }

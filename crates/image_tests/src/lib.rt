@@ -2,4 +2,8 @@
 #![tactic(auto)]
 
 #[cfg(test)]
+mod application;
+#[cfg(test)]
 mod images;
+#[cfg(test)]
+mod ram;

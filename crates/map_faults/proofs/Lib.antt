@@ -1,0 +1,2 @@
+mod AcceptedLemmas
+mod RuleLemmas

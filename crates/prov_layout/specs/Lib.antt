@@ -1,0 +1,8 @@
+pub mod Offsets
+pub mod Pieces
+pub mod Laid
+pub mod Joins
+pub mod Loads
+pub mod Stores
+pub mod Stack
+pub mod Laws

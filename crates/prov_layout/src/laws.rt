@@ -1,0 +1,16 @@
+//! Laws.
+#![tactic(auto)]
+
+ghost use Rattle.prov_layout.specs.Laws.{EachPasses, IsClosedOutside, OneFails, PassesEach};
+
+/// A law: a test at many numbers passes exactly where it passes at each.
+pub fn every_is_each()
+    ensures passes { EachPasses }
+    ensures each { PassesEach }
+    ensures fails { OneFails }
+{}
+
+/// A law: behind a region's end each byte is closed.
+pub fn closed_outside()
+    ensures { IsClosedOutside }
+{}
