@@ -9,8 +9,13 @@ use Rattle.toml.specs.Parse.{parse_document}
 use Rattle.uh_base.specs.Names.{is_name}
 use Rattle.host_script.specs.Faults.{◌>>=◌, Place, placed}
 use Rattle.host_script.specs.Fields.{only_keys, text_field, number_field, integer_in, integer_field, tables_field, items_len, counted, needed}
-use Rattle.host_script.specs.Script.{has_image, table_of, Top, not_empty, steps_field, is_ram_base, or_4096, ram_pages_of, pages_to_judge, base_or, ram_base_of, top_of, new_name, text_limit, short_text, one_of, origin_of, image_in, image_at, images_of, known_name, step_image, or_million, bound_of, load_in, start_in, memmap_in, step_by, step_in, step_at, steps_of, with_steps, script_of, of_document, script_in}
+use Rattle.host_script.specs.Script.{has_image, table_of, Top, not_empty, steps_field, is_ram_base, or_4096, ram_pages_of, pages_to_judge, base_or, ram_base_of, top_keys, top_of, new_name, text_limit, short_text, one_of, origin_of, image_in, image_at, images_of, known_name, step_image, or_million, bound_of, load_in, start_in, memmap_in, step_by, step_in, step_at, steps_of, whole, with_steps, script_of, of_document, script_in}
 use Rattle.host_script.specs.Plain.{Plain}
+use Rattle.host_script.specs.Lists.{texts_field, forms_of, few}
+use Rattle.host_script.specs.Settings.{Settings, is_time, usual_time, time_or, time_of, rises, rising, ticks_of, trace_of, settings_of}
+use Rattle.uh_base.specs.Numbers.{number_of}
+use Rattle.time_service.specs.Times.{is_valid}
+use Rattle.time_service.specs.Texts.{clock_of, fits_form, time_in}
 use Rattle.host_script.specs.Forms.{IsOrigin, AreImages, IsStep, AreSteps, IsScript, ScriptsKeepForms}
 use Rattle.host_script.specs.declared.fault.ScriptKind.{ScriptKind}
 use Rattle.host_script.specs.declared.fault.ScriptKind.TheVariants as kinds
@@ -270,14 +275,6 @@ steps_read images before (item content items) steps h =
 
 -- ---- the whole
 
-record ReadsTop (top : Top) : Type 0 where
-  ram_base : is_ram_base top.ram_pages top.ram_base ≡ true
-  some_ram : 256 ≤ top.ram_pages
-  few_ram : top.ram_pages ≤ 4096
-  few_images : items_len top.images ≤ 16
-  some_steps : 1 ≤ items_len top.steps
-  few_steps : items_len top.steps ≤ 4096
-
 steps_counted : (table : Members) (steps : Items) → steps_field table ≡ Ok steps → (1 ≤ items_len steps) × (items_len steps ≤ 4096)
 unfolding steps_field
 steps_counted table steps h =
@@ -315,29 +312,96 @@ ram_base_read table pages base same few h =
     let judged : pages_to_judge (ram_pages_of table) ≡ pages = rw same refl in
     base_read pages p.x base few (subst (λ n. base_or n p.x ≡ Ok base) judged p.then_)
 
-abbrev with_lists : ℕ → ℕ → Items → Items → Result Top ScriptKind
-with_lists ram_base ram_pages images steps = Ok (record { ram_base = ram_base; ram_pages = ram_pages; images = images; steps = steps })
+-- ---- the settings
+
+record ReadsSettings (settings : Settings) : Type 0 where
+  time : is_time settings.time ≡ true
+  rise : rises 0 settings.ticks ≡ true
+  few_ticks : length settings.ticks ≤ 1024
+
+usual_is_time : is_time usual_time ≡ true
+unfolding is_time clock_of fits_form is_valid time_in
+usual_is_time = refl
+
+time_kept : (given : Option (List ℕ)) (time : List ℕ) → time_or given ≡ Ok time → is_time time ≡ true
+time_kept None time h = let same : usual_time ≡ time = cc in subst (λ text. is_time text ≡ true) same usual_is_time
+time_kept (Some text) time h =
+    let p = checked (is_time text) text time kinds.Value h in
+    let same : text ≡ time = p.1 in
+    subst (λ text. is_time text ≡ true) same p.0
+
+time_read : (table : Members) (time : List ℕ) → time_of table ≡ Ok time → is_time time ≡ true
+unfolding time_of
+time_read table time h = let p = went (text_field (codes "time") table) time_or time h in time_kept p.x time p.then_
+
+few_are : {A : Type 0} (most : ℕ) (items kept : List A) → few most items ≡ Ok kept → (items ≡ kept) × (length kept ≤ most)
+few_are most items kept h =
+    let p = refused (nat_lt most (length items)) items kept kinds.Count h in
+    let test : nat_lt most (length items) ≡ false = p.0 in
+    let few : length items ≤ most = grind (arith, nat_tests, test) in
+    let same : items ≡ kept = p.1 in
+    (same, rw (← same) few)
+
+ticks_read : (table : Members) (ticks : List ℕ) → ticks_of table ≡ Ok ticks → (rises 0 ticks ≡ true) × (length ticks ≤ 1024)
+unfolding ticks_of
+ticks_read table ticks h =
+    let all = went ((texts_field (codes "ticks") table >>= forms_of number_of []) >>= rising) (few 1024) ticks h in
+    let rise = went (texts_field (codes "ticks") table >>= forms_of number_of []) rising all.x all.first in
+    let is = checked (rises 0 rise.x) rise.x all.x kinds.Value rise.then_ in
+    let count = few_are 1024 all.x ticks all.then_ in
+    let same : rise.x ≡ all.x = is.1 in
+    let kept : all.x ≡ ticks = count.0 in
+    (subst (λ ns. rises 0 ns ≡ true) (same ∙ kept) is.0, count.1)
+
+abbrev with_store : List ℕ → List ℕ → Option ℕ → Bool → Option (List ℕ) → Result Settings ScriptKind
+with_store time ticks os_virtual trace store = Ok (record { time = time; ticks = ticks; os_virtual = os_virtual; trace = trace; store = store })
+
+settings_read : (table : Members) (settings : Settings) → settings_of table ≡ Ok settings → ReadsSettings settings
+unfolding settings_of
+settings_read table settings h =
+    let time = went (time_of table) _ settings h in
+    let ticks = went (ticks_of table) _ settings time.then_ in
+    let os = went (number_field (codes "os_virtual") table) _ settings ticks.then_ in
+    let trace = went (trace_of table) _ settings os.then_ in
+    let store = went (text_field (codes "store") table) (with_store time.x ticks.x os.x trace.x) settings trace.then_ in
+    let made : Settings = record { time = time.x; ticks = ticks.x; os_virtual = os.x; trace = trace.x; store = store.x } in
+    let same : made ≡ settings = cc in
+    let read = ticks_read table ticks.x ticks.first in
+    subst ReadsSettings same (record { time = time_read table time.x time.first; rise = read.0; few_ticks = read.1 })
+
+record ReadsTop (top : Top) : Type 0 where
+  ram_base : is_ram_base top.ram_pages top.ram_base ≡ true
+  some_ram : 256 ≤ top.ram_pages
+  few_ram : top.ram_pages ≤ 4096
+  settings : ReadsSettings top.settings
+  few_images : items_len top.images ≤ 16
+  some_steps : 1 ≤ items_len top.steps
+  few_steps : items_len top.steps ≤ 4096
+
+abbrev with_lists : ℕ → ℕ → Settings → Items → Items → Result Top ScriptKind
+with_lists ram_base ram_pages settings images steps = Ok (record { ram_base = ram_base; ram_pages = ram_pages; settings = settings; images = images; steps = steps })
 
 top_read : (table : Members) (top : Top) → top_of table ≡ Ok top → ReadsTop top
 unfolding top_of
 top_read table top h =
     let listed : Result Items ScriptKind = tables_field (codes "image") table >>= counted 16 in
-    let keys = went (only_keys (codes "ram_base" ∷ codes "ram_pages" ∷ codes "image" ∷ codes "step" ∷ []) table)
-    (λ _. ram_base_of table >>= λ base. ram_pages_of table >>= λ pages. listed >>= λ images. steps_field table >>= with_lists base pages images) top h in
-    let base = went (ram_base_of table) (λ base. ram_pages_of table >>= λ pages. listed >>= λ images. steps_field table >>= with_lists base pages images) top keys.then_ in
-    let pages = went (ram_pages_of table) (λ pages. listed >>= λ images. steps_field table >>= with_lists base.x pages images) top base.then_ in
-    let images = went listed (λ images. steps_field table >>= with_lists base.x pages.x images) top pages.then_ in
-    let steps = went (steps_field table) (with_lists base.x pages.x images.x) top images.then_ in
+    let keys = went (only_keys top_keys table) _ top h in
+    let base = went (ram_base_of table) _ top keys.then_ in
+    let pages = went (ram_pages_of table) _ top base.then_ in
+    let settings = went (settings_of table) _ top pages.then_ in
+    let images = went listed _ top settings.then_ in
+    let steps = went (steps_field table) (with_lists base.x pages.x settings.x images.x) top images.then_ in
     let all = went (tables_field (codes "image") table) (counted 16) images.x images.first in
     let few = few_kept 16 all.x images.x all.then_ in
     let count = steps_counted table steps.x steps.first in
     let ram = ram_pages_read table pages.x pages.first in
-    let made : Top = record { ram_base = base.x; ram_pages = pages.x; images = images.x; steps = steps.x } in
+    let made : Top = record { ram_base = base.x; ram_pages = pages.x; settings = settings.x; images = images.x; steps = steps.x } in
     let same : made ≡ top = cc in
     subst ReadsTop same (record {
       ram_base = ram_base_read table pages.x base.x pages.first ram.1 base.first;
       some_ram = ram.0;
       few_ram = ram.1;
+      settings = settings_read table settings.x settings.first;
       few_images = few.1;
       some_steps = count.0;
       few_steps = count.1;
@@ -346,7 +410,7 @@ top_read table top h =
 record WithSteps (top : Top) (images : List ImageSpec) (r : Result (List Step) Place) (script : Plain) : Type 0 where
   steps : List Step
   first : r ≡ Ok steps
-  same : record { ram_base = top.ram_base; ram_pages = top.ram_pages; image = images; step = steps } ≡ script
+  same : whole top images steps ≡ script
 
 with_all : (top : Top) (images : List ImageSpec) (r : Result (List Step) Place) (script : Plain) → with_steps top images r ≡ Ok script → WithSteps top images r script
 with_all top images (Ok steps) script h = record { steps = steps; first = refl; same = cc }
@@ -368,6 +432,9 @@ document_read table script h =
       ram_base = counts.ram_base;
       some_ram = counts.some_ram;
       few_ram = counts.few_ram;
+      time = counts.settings.time;
+      rise = counts.settings.rise;
+      few_ticks = counts.settings.few_ticks;
       few_images = omega (arith, ap length same_images, read.long, counts.few_images);
       images = rw same_images read.keep;
       some_steps = omega (arith, ap length same_steps, ran.long, counts.some_steps);

@@ -1,5 +1,5 @@
 -- One turn of a loop over the values of a list.
-use Rattle.std.proofs.Common.{◌≡◌, ℕ, ◌+◌, ◌<◌, ◌≤◌, List, [], ◌∷◌, ◌++◌, length, get_or, drop, Result, Ok, refl, sym, subst, ◌∙◌}
+use Rattle.std.proofs.Common.{◌≡◌, ℕ, ◌+◌, ◌<◌, ◌≤◌, List, [], ◌∷◌, ◌++◌, length, get_or, drop, Option, Result, Ok, refl, sym, subst, ◌∙◌}
 use Rattle.toml.proofs.Views.{items_view-drop}
 use Rattle.toml.specs.View.{view, items_view}
 use Rattle.toml.specs.declared.value.Value.{Value}
@@ -10,6 +10,7 @@ use Rattle.host_script.specs.declared.fault.Fault.TheVariants as faults
 use Rattle.host_script.specs.declared.script.ImageSpec.{ImageSpec}
 use Rattle.host_script.specs.declared.script.Step.{Step}
 use Rattle.host_script.specs.Faults.{◌>>=◌, Fails, Place, placed, fault_at, Stops}
+use Rattle.host_script.specs.Lists.{form_at, forms_of}
 use Rattle.host_script.specs.Script.{image_at, images_of, step_at, steps_of}
 
 -- a failed first part fails the whole
@@ -60,3 +61,22 @@ module _ (images : List ImageSpec) (before : List Step) (vs : List Value) (i : �
 
   pub steps_of-fails : (e : Fault) → Fails e (step_at images (view v)) → Stops (fault_at (length before + 1) e) whole
   steps_of-fails e h = Stops-placed (length before + 1) e (step_at images (view v)) _ whole h steps_of-turn
+
+module _ {A : Type 0} (form : List ℕ → Option A) (before : List A) (vs : List Value) (i : ℕ) where
+  forms_of-next : (d : Value) → i < length vs → (form_at form (view (get_or vs i d)) >>= λ x. forms_of form (before ++ x ∷ []) (items_view (drop (i + 1) vs))) ≡ forms_of form before (items_view (drop i vs))
+  unfolding forms_of
+  forms_of-next d h = rw (items_view-drop vs i d h) refl
+
+  pub forms_of-end : length vs ≤ i → forms_of form before (items_view (drop i vs)) ≡ Ok before
+  unfolding forms_of
+  forms_of-end h = rw (drop_all i vs h) refl
+
+module _ {A : Type 0} (form : List ℕ → Option A) (before : List A) (vs : List Value) (i : ℕ) (v : Value) (whole : Result (List A) ScriptKind) (below : i < length vs) (is : v ≡ get_or vs i v) (so_far : forms_of form before (items_view (drop i vs)) ≡ whole) where
+  forms_of-turn : (form_at form (view v) >>= λ x. forms_of form (before ++ x ∷ []) (items_view (drop (i + 1) vs))) ≡ whole
+  forms_of-turn = subst (λ (w : Value). (form_at form (view w) >>= λ x. forms_of form (before ++ x ∷ []) (items_view (drop (i + 1) vs))) ≡ whole) (sym is) (forms_of-next form before vs i v below ∙ so_far)
+
+  pub forms_of-goes_on : (x : A) → form_at form (view v) ≡ Ok x → forms_of form (before ++ x ∷ []) (items_view (drop (i + 1) vs)) ≡ whole
+  forms_of-goes_on x h = rw h at forms_of-turn
+
+  pub forms_of-fails : (e : Fault) → Fails e (form_at form (view v)) → Fails e whole
+  forms_of-fails e h = Fails-bind e (form_at form (view v)) _ whole h forms_of-turn

@@ -7,6 +7,7 @@ use Rattle.host_script.specs.declared.script.Origin.TheVariants.{File, Text}
 use Rattle.host_script.specs.declared.script.Step.{Step}
 use Rattle.host_script.specs.declared.script.Step.TheVariants.{Load, Start, MemMap}
 use Rattle.host_script.specs.Plain.{Plain}
+use Rattle.host_script.specs.Settings.{is_time, rises}
 use Rattle.host_script.specs.Script.{has_image, is_ram_base, text_limit, script_in}
 
 -- An assembly text has at most 4 MiB.
@@ -34,6 +35,9 @@ pub record IsScript (script : Plain) : Type 0 where
   pub ram_base : is_ram_base script.ram_pages script.ram_base ≡ true
   pub some_ram : 256 ≤ script.ram_pages
   pub few_ram : script.ram_pages ≤ 4096
+  pub time : is_time script.time ≡ true
+  pub rise : rises 0 script.ticks ≡ true
+  pub few_ticks : length script.ticks ≤ 1024
   pub few_images : length script.image ≤ 16
   pub images : AreImages [] script.image
   pub some_steps : 1 ≤ length script.step

@@ -7,6 +7,7 @@ use Rattle.toml.specs.Parse.{parse_document}
 use Rattle.uh_base.specs.Names.{is_name}
 use Rattle.host_script.specs.Faults.{◌>>=◌, Place, placed}
 use Rattle.host_script.specs.Plain.{Plain}
+use Rattle.host_script.specs.Settings.{Settings, settings_of}
 use Rattle.host_script.specs.Fields.{only_keys, text_field, number_field, integer_field, tables_field, items_len, counted, needed}
 use Rattle.host_script.specs.declared.fault.ScriptKind.{ScriptKind}
 use Rattle.host_script.specs.declared.fault.ScriptKind.TheVariants as kinds
@@ -30,6 +31,7 @@ table_of (Some members) = Ok members
 pub record Top : Type 0 where
   pub ram_base : ℕ
   pub ram_pages : ℕ
+  pub settings : Settings
   pub images : Items
   pub steps : Items
 
@@ -62,14 +64,20 @@ pages_to_judge (Err kind) = 0
 unfoldable pub ram_base_of : Members → Result ℕ ScriptKind
 ram_base_of top = number_field (codes "ram_base") top >>= base_or (pages_to_judge (ram_pages_of top))
 
+abbrev pub top_keys : List (List ℕ)
+top_keys =
+    codes "ram_base" ∷ codes "ram_pages" ∷ codes "time" ∷ codes "ticks" ∷ codes "os_virtual" ∷ codes "trace" ∷ codes "store" ∷ codes "image"
+    ∷ codes "step" ∷ []
+
 unfoldable pub top_of : Members → Result Top ScriptKind
 top_of top = do
-  _ ← only_keys (codes "ram_base" ∷ codes "ram_pages" ∷ codes "image" ∷ codes "step" ∷ []) top
+  _ ← only_keys top_keys top
   ram_base ← ram_base_of top
   ram_pages ← ram_pages_of top
+  settings ← settings_of top
   images ← tables_field (codes "image") top >>= counted 16
   steps ← steps_field top
-  Ok (record { ram_base = ram_base; ram_pages = ram_pages; images = images; steps = steps })
+  Ok (record { ram_base = ram_base; ram_pages = ram_pages; settings = settings; images = images; steps = steps })
 
 -- ---- images, each with those before it
 
@@ -163,8 +171,21 @@ steps_of images before (item content items) = placed (length before + 1) (step_a
 
 -- ---- the whole
 
+abbrev pub whole : Top → List ImageSpec → List Step → Plain
+whole top images steps = record {
+  ram_base = top.ram_base;
+  ram_pages = top.ram_pages;
+  time = top.settings.time;
+  ticks = top.settings.ticks;
+  os_virtual = top.settings.os_virtual;
+  trace = top.settings.trace;
+  store = top.settings.store;
+  image = images;
+  step = steps;
+}
+
 abbrev pub with_steps : Top → List ImageSpec → Result (List Step) Place → Result Plain Place
-with_steps top images (Ok steps) = Ok (record { ram_base = top.ram_base; ram_pages = top.ram_pages; image = images; step = steps })
+with_steps top images (Ok steps) = Ok (whole top images steps)
 with_steps top images (Err place) = Err place
 
 -- the top table, the images and the steps are step 0, step 0, and each its own

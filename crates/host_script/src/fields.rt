@@ -31,7 +31,8 @@ pub(crate) fn only_keys(table: &Table, words: &[&str]) -> Result<(), ScriptKind>
     Ok(())
 }
 
-fn find<'a>(table: &'a Table, key: &str) -> Option<&'a Value>
+/// The value at a key, if the key is there.
+pub(crate) fn find<'a>(table: &'a Table, key: &str) -> Option<&'a Value>
     ensures { option_map (λ v. view v.now) result ≡ get_member key.now (table_view table.now) }
 {
     table.get(key)

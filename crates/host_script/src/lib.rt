@@ -4,8 +4,10 @@
 mod fault;
 mod fields;
 mod images;
+mod lists;
 mod reading;
 mod script;
+mod settings;
 mod steps;
 
 pub use fault::{ScriptFault, ScriptKind};

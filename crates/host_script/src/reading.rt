@@ -1,16 +1,17 @@
 //! Reading a script.
 ghost use Rattle.std.specs.Prelude.{◌≡◌, ◌≤◌, length, IfOk};
 ghost use Rattle.toml.specs.View.{table_view, items_view};
-ghost use Rattle.host_script.specs.Faults.{Reads};
+ghost use Rattle.host_script.specs.Faults.{Gives, Reads};
 ghost use Rattle.host_script.specs.Fields.{seen_items};
 ghost use Rattle.host_script.specs.Script.{not_empty, steps_field, is_ram_base, ram_pages_of, pages_to_judge, ram_base_of, top_of, script_of, script_in};
 ghost use Rattle.host_script.specs.Forms.{ScriptsKeepForms};
 ghost use Rattle.host_script.specs.Seen.{top_seen};
 
-use crate::fault::{ScriptFault, ScriptKind};
+use crate::fault::{Fault, ScriptFault, ScriptKind};
 use crate::fields;
 use crate::images::images_of;
 use crate::script::Script;
+use crate::settings::{Settings, settings_of};
 use crate::steps::{fault_at, steps_of};
 use std::alloc::Global;
 use toml::{Table, Value};
@@ -20,6 +21,7 @@ use toml::{Table, Value};
 struct Top<'a> {
     ram_base: u64,
     ram_pages: u32,
+    settings: Settings,
     images: &'a [Value],
     steps: &'a [Value],
 }
@@ -94,18 +96,33 @@ fn ram_base_of(top: &Table) -> Result<u64, ScriptKind>
 }
 
 #[tactic(auto, unfolding(crate::specs::Script::top_of))]
-fn top_of(top: &Table) -> Result<Top<'_>, ScriptKind>
-    ensures seen { top_seen result ≡ top_of (table_view top.now) }
+fn top_of(alloc: Global, top: &Table) -> Result<Top<'_>, Fault>
+    ensures seen { Gives top_seen result (top_of (table_view top.now)) }
     ensures few { IfOk result (λ top. length top.steps.now ≤ 4096) }
 {
-    fields::only_keys(top, &["ram_base", "ram_pages", "image", "step"])?;
+    fields::only_keys(
+        top,
+        &[
+            "ram_base",
+            "ram_pages",
+            "time",
+            "ticks",
+            "os_virtual",
+            "trace",
+            "store",
+            "image",
+            "step",
+        ],
+    )?;
     let ram_base = ram_base_of(top)?;
     let ram_pages = ram_pages_of(top)?;
+    let settings = settings_of(alloc, top)?;
     let images = fields::counted(fields::tables_field(top, "image")?, 16)?;
     let steps = steps_field(top)?;
     Ok(Top {
         ram_base,
         ram_pages,
+        settings,
         images,
         steps,
     })
@@ -115,9 +132,9 @@ fn top_of(top: &Table) -> Result<Top<'_>, ScriptKind>
 fn script_of(alloc: Global, document: &Table) -> Result<Script, ScriptFault>
     ensures { Reads (λ script. script) result (script_of (table_view document.now)) }
 {
-    let top = match top_of(document) {
+    let top = match top_of(alloc, document) {
         Ok(top) => top,
-        Err(kind) => return Err(ScriptFault::At { step: 0, kind }),
+        Err(fault) => return Err(fault_at(0, fault)),
     };
     let image = match images_of(alloc, top.images) {
         Ok(image) => image,
@@ -127,6 +144,11 @@ fn script_of(alloc: Global, document: &Table) -> Result<Script, ScriptFault>
         Ok(step) => Ok(Script {
             ram_base: top.ram_base,
             ram_pages: top.ram_pages,
+            time: top.settings.time,
+            ticks: top.settings.ticks,
+            os_virtual: top.settings.os_virtual,
+            trace: top.settings.trace,
+            store: top.settings.store,
             image,
             step,
         }),

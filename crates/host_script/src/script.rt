@@ -37,6 +37,16 @@ pub struct Script {
     pub ram_base: u64,
     /// How many pages of 4,096 bytes RAM has: 256 to 4,096.
     pub ram_pages: u32,
+    /// The time at opening, as `2024-01-01T00:00:00`: one that sets a clock.
+    pub time: Text,
+    /// Tick moments beside the usual ones, in units of 100 ns: at most 1,024, positive and rising.
+    pub ticks: Vec<u64>,
+    /// Where the window of the operating system moves to.
+    pub os_virtual: Option<u64>,
+    /// Whether each service that answers prints a line.
+    pub trace: bool,
+    /// The file of the variables at opening.
+    pub store: Option<Text>,
     pub image: Vec<ImageSpec>,
     pub step: Vec<Step>,
 }
@@ -46,5 +56,5 @@ impl Model for Script {
 
     ghost Value = { Plain };
 
-    ghost view = { λ s. record { ram_base = s.ram_base; ram_pages = s.ram_pages; image = s.image.items; step = s.step.items } };
+    ghost view = { λ s. record { ram_base = s.ram_base; ram_pages = s.ram_pages; time = s.time; ticks = s.ticks.items; os_virtual = s.os_virtual; trace = s.trace; store = s.store; image = s.image.items; step = s.step.items } };
 }

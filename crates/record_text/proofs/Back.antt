@@ -1,5 +1,5 @@
 -- A line's text is guessed to be that line's.
-use Rattle.std.proofs.Common.{◌≡◌, ℕ, zero, suc, ◌+◌, ◌/◌, ◌%◌, ◌^◌, ◌<◌, ◌≤◌, List, [], ◌∷◌, ◌++◌, length, take, drop, codes, true, false, Some, None, refl, sym, rules, arith, append_assoc}
+use Rattle.std.proofs.Common.{◌≡◌, ℕ, zero, suc, ◌+◌, ◌/◌, ◌%◌, ◌^◌, ◌<◌, ◌≤◌, List, [], ◌∷◌, ◌++◌, length, take, drop, codes, Bool, not, true, false, Some, None, refl, sym, rules, arith, append_assoc}
 use Rattle.std.proofs.lemmas.Bool.{and_parts}
 use Rattle.std.proofs.lemmas.Bool.Decides.{nat_tests}
 use Rattle.std.proofs.lemmas.List.{take_at, drop_at, length-append}
@@ -13,12 +13,17 @@ use Rattle.uh_base.specs.Hex.{hex_digit, hex_digits}
 use Rattle.uh_base.specs.Names.{is_name, is_name_byte}
 use Rattle.uh_base.specs.Numbers.{digit_value, digits_number, number_of, hexadecimal_number}
 use Rattle.record_text.specs.Causes.{cause_name, cause_of}
+use Rattle.record_text.specs.Services.{service_name}
+use Rattle.record_text.proofs.ServiceLemmas.{services_back, service_no_space}
+use Rattle.record_text.specs.HexBytes.{bytes_from, bytes_of}
+use Rattle.record_text.specs.Console.{digit}
+use Rattle.record_text.proofs.HexLemmas.{bytes_back}
 use Rattle.record_text.specs.Texts.{text_of, IsLine}
-use Rattle.record_text.specs.Guesses.{is_space, cut, small_number, load_of, start_of, memmap_of, row_of, halt_of, with_word, behind_word, guess_of}
+use Rattle.record_text.specs.Guesses.{is_space, cut, small_number, load_of, svc_of, start_of, unload_of, exit_boot_of, shown_of, peek_of, vars_of, memmap_of, row_of, reset_of, halt_of, with_later_word, with_word, behind_word, guess_of}
 use Rattle.record_text.specs.declared.cause.Cause.{Cause}
 use Rattle.record_text.specs.declared.cause.Cause.TheVariants as causes
 use Rattle.record_text.specs.declared.line.Line.{Line}
-use Rattle.record_text.specs.declared.line.Line.TheVariants.{Console, Load, Start, MemmapKey, MemmapRow, Halt, End}
+use Rattle.record_text.specs.declared.line.Line.TheVariants.{Console, Svc, Load, Start, Unload, ExitBoot, Bytes, Peek, PeekFault, MemmapKey, MemmapRow, Vars, Reset, Halt, End}
 
 -- ---- words
 
@@ -103,6 +108,17 @@ cause_no_space causes.BootGone = search rules
 cause_no_space causes.Depth = search rules
 cause_no_space causes.Frames = search rules
 
+not_true : (b : Bool) → not b ≡ true → b ≡ false
+not_true true h = cc
+not_true false h = refl
+
+words_no_space : (s : List ℕ) → list_all (λ b. not (is_space b)) s ≡ true → NoSpace s
+words_no_space [] h = tt
+words_no_space (c ∷ cs) h = let p = and_parts (not (is_space c)) _ h in (not_true (is_space c) p.0, words_no_space cs p.1)
+
+slot_no_space : (slot : ℕ) → NoSpace (service_name slot)
+slot_no_space slot = words_no_space (service_name slot) (service_no_space slot)
+
 -- ---- words that are read back
 
 cause_back : (cause : Cause) → cause_of (cause_name cause) ≡ Some cause
@@ -141,6 +157,14 @@ load_no_number : small_number (codes "load") ≡ None
 unfolding small_number number_of digits_number digit_value
 load_no_number = refl
 
+svc_no_number : small_number (codes "svc") ≡ None
+unfolding small_number number_of digits_number digit_value
+svc_no_number = refl
+
+reset_no_number : small_number (codes "reset") ≡ None
+unfolding small_number number_of digits_number digit_value
+reset_no_number = refl
+
 start_no_number : small_number (codes "start") ≡ None
 unfolding small_number number_of digits_number digit_value
 start_no_number = refl
@@ -153,11 +177,44 @@ halt_no_number : small_number (codes "halt") ≡ None
 unfolding small_number number_of digits_number digit_value
 halt_no_number = refl
 
+unload_no_number : small_number (codes "unload") ≡ None
+unfolding small_number number_of digits_number digit_value
+unload_no_number = refl
+
+exit_boot_no_number : small_number (codes "exit_boot") ≡ None
+unfolding small_number number_of digits_number digit_value
+exit_boot_no_number = refl
+
+bytes_no_number : small_number (codes "bytes") ≡ None
+unfolding small_number number_of digits_number digit_value
+bytes_no_number = refl
+
+peek_no_number : small_number (codes "peek") ≡ None
+unfolding small_number number_of digits_number digit_value
+peek_no_number = refl
+
+vars_no_number : small_number (codes "vars") ≡ None
+unfolding small_number number_of digits_number digit_value
+vars_no_number = refl
+
+-- `fault` isn't the text of bytes
+fault_no_bytes : bytes_of (codes "fault") ≡ None
+unfolding bytes_of bytes_from digit
+fault_no_bytes = refl
+
 -- ---- lines
 
 pub guess_text : ReadBack → (line : Line) → IsLine line → guess_of (text_of line) ≡ Some line
-unfolding guess_of behind_word with_word text_of load_of start_of memmap_of row_of halt_of
+unfolding guess_of behind_word with_later_word with_word text_of svc_of load_of start_of unload_of exit_boot_of shown_of peek_of vars_of memmap_of row_of reset_of halt_of
 guess_text laws (Console text) f = rw (cut_word (codes "console") text (search rules), console_no_number) refl
+guess_text laws (Svc slot h0) f =
+    rw (
+      cut_word (codes "svc") _ (search rules),
+      svc_no_number,
+      cut_word (service_name slot) _ (slot_no_space slot),
+      services_back slot f.0,
+      hex_back laws h0 f.1.1,
+    ) refl
 guess_text laws (Load name h0 h1 pages) f =
     rw (
       cut_word (codes "load") _ (search rules),
@@ -178,6 +235,39 @@ guess_text laws (Start name h0 steps) f =
       hex_back laws h0 f.1.0,
       laws.decimals steps f.1.1,
     ) refl
+guess_text laws (Unload name h0) f =
+    rw (
+      cut_word (codes "unload") _ (search rules),
+      unload_no_number,
+      cut_word name _ (name_no_space name f.0),
+      hex_back laws h0 f.1,
+    ) refl
+guess_text laws (ExitBoot h0) f = rw (cut_word (codes "exit_boot") _ (search rules), exit_boot_no_number, hex_back laws h0 f.1) refl
+guess_text laws (Bytes offset hex) f =
+    rw (
+      cut_word (codes "bytes") _ (search rules),
+      bytes_no_number,
+      cut_word (decimal offset) _ (decimal_no_space offset (omega (arith, f.1))),
+      small_back laws offset f.1,
+      bytes_back hex f.0.0.0,
+    ) refl
+guess_text laws (Peek h0 hex) f =
+    rw (
+      cut_word (codes "peek") _ (search rules),
+      peek_no_number,
+      cut_word (hex_digits 16 h0) _ (hex_no_space 16 h0),
+      hex_back laws h0 f.1,
+      bytes_back hex f.0.0.0,
+    ) refl
+guess_text laws (PeekFault h0) f =
+    rw (
+      cut_word (codes "peek") _ (search rules),
+      peek_no_number,
+      cut_word (hex_digits 16 h0) _ (hex_no_space 16 h0),
+      hex_back laws h0 f.1,
+      fault_no_bytes,
+    ) refl
+guess_text laws (Vars hex) f = rw (cut_word (codes "vars") _ (search rules), vars_no_number, bytes_back hex f.0.0) refl
 guess_text laws (MemmapKey key) f =
     rw (cut_word (codes "memmap") _ (search rules), memmap_no_number, laws.decimals key f.1) refl
 guess_text laws (MemmapRow memory_type h0 pages h1) f =
@@ -189,6 +279,14 @@ guess_text laws (MemmapRow memory_type h0 pages h1) f =
       hex_back laws h0 f.1.1,
       laws.decimals pages f.1.2,
       hex_back laws h1 f.1.3,
+    ) refl
+guess_text laws (Reset kind h0) f =
+    rw (
+      cut_word (codes "reset") _ (search rules),
+      reset_no_number,
+      cut_word (decimal kind) _ (decimal_no_space kind (omega (arith, f.1.0))),
+      small_back laws kind f.1.0,
+      hex_back laws h0 f.1.1,
     ) refl
 guess_text laws (Halt cause h0 h1) f =
     rw (

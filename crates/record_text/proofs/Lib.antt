@@ -1,3 +1,6 @@
 pub mod Back
 pub mod ConsoleLemmas
+pub mod HexLemmas
 pub mod ImageBack
+pub mod ServiceLemmas
+pub mod ServiceTable

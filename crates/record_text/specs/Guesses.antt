@@ -6,8 +6,10 @@ use Rattle.std.specs.Str.{bytes_eq}
 use Rattle.std.specs.Borrow.{Bor}
 use Rattle.uh_base.specs.Numbers.{number_of, hexadecimal_number}
 use Rattle.record_text.specs.Causes.{cause_of}
+use Rattle.record_text.specs.Services.{service_slot}
+use Rattle.record_text.specs.HexBytes.{bytes_of}
 use Rattle.record_text.specs.declared.line.Line.{Line}
-use Rattle.record_text.specs.declared.line.Line.TheVariants.{Console, Load, Start, MemmapKey, MemmapRow, Halt, End}
+use Rattle.record_text.specs.declared.line.Line.TheVariants.{Console, Svc, Load, Start, Unload, ExitBoot, Bytes, Peek, PeekFault, MemmapKey, MemmapRow, Vars, Reset, Halt, End}
 
 infixl 10 ◌>>=◌
 abbrev pub ◌>>=◌ : {A B : Type 0} → Option A → (A → Option B) → Option B
@@ -27,6 +29,13 @@ seen_cut parts = option_map (λ p. (p.0.now, p.1.now)) parts
 unfoldable pub small_number : List ℕ → Option ℕ
 small_number text = number_of text >>= λ n. if nat_lt n (2 ^ 32) then Some n else None
 
+unfoldable pub svc_of : List ℕ → Option Line
+svc_of text = do
+  name ← cut text
+  slot ← service_slot name.0
+  h0 ← hexadecimal_number name.1
+  Some (Svc slot h0)
+
 unfoldable pub load_of : List ℕ → Option Line
 load_of text = do
   name ← cut text
@@ -45,6 +54,35 @@ start_of text = do
   steps ← number_of first.1
   Some (Start name.0 h0 steps)
 
+unfoldable pub unload_of : List ℕ → Option Line
+unload_of text = do
+  name ← cut text
+  h0 ← hexadecimal_number name.1
+  Some (Unload name.0 h0)
+
+unfoldable pub exit_boot_of : List ℕ → Option Line
+exit_boot_of text = hexadecimal_number text >>= λ h0. Some (ExitBoot h0)
+
+unfoldable pub shown_of : List ℕ → Option Line
+shown_of text = do
+  word ← cut text
+  offset ← small_number word.0
+  hex ← bytes_of word.1
+  Some (Bytes offset hex)
+
+abbrev pub peeked : ℕ → List ℕ → Option (List ℕ) → Option Line
+peeked h0 word None = if bytes_eq word (codes "fault") then Some (PeekFault h0) else None
+peeked h0 word (Some hex) = Some (Peek h0 hex)
+
+unfoldable pub peek_of : List ℕ → Option Line
+peek_of text = do
+  first ← cut text
+  h0 ← hexadecimal_number first.0
+  peeked h0 first.1 (bytes_of first.1)
+
+unfoldable pub vars_of : List ℕ → Option Line
+vars_of text = bytes_of text >>= λ hex. Some (Vars hex)
+
 unfoldable pub memmap_of : List ℕ → Option Line
 memmap_of text = number_of text >>= λ key. Some (MemmapKey key)
 
@@ -58,6 +96,13 @@ row_of memory_type text = do
   h1 ← hexadecimal_number second.1
   Some (MemmapRow memory_type h0 pages h1)
 
+unfoldable pub reset_of : List ℕ → Option Line
+reset_of text = do
+  word ← cut text
+  kind ← small_number word.0
+  h0 ← hexadecimal_number word.1
+  Some (Reset kind h0)
+
 unfoldable pub halt_of : List ℕ → Option Line
 halt_of text = do
   word ← cut text
@@ -67,13 +112,23 @@ halt_of text = do
   h1 ← hexadecimal_number first.1
   Some (Halt cause h0 h1)
 
+unfoldable pub with_later_word : List ℕ → List ℕ → Option Line
+with_later_word word rest =
+    if bytes_eq word (codes "unload") then unload_of rest
+    else (if bytes_eq word (codes "exit_boot") then exit_boot_of rest
+    else (if bytes_eq word (codes "bytes") then shown_of rest
+    else (if bytes_eq word (codes "peek") then peek_of rest
+    else (if bytes_eq word (codes "vars") then vars_of rest else None))))
+
 unfoldable pub with_word : List ℕ → List ℕ → Option Line
 with_word word rest =
     if bytes_eq word (codes "console") then Some (Console rest)
     else (if bytes_eq word (codes "load") then load_of rest
     else (if bytes_eq word (codes "start") then start_of rest
     else (if bytes_eq word (codes "memmap") then memmap_of rest
-    else (if bytes_eq word (codes "halt") then halt_of rest else None))))
+    else (if bytes_eq word (codes "svc") then svc_of rest
+    else (if bytes_eq word (codes "reset") then reset_of rest
+    else (if bytes_eq word (codes "halt") then halt_of rest else with_later_word word rest))))))
 
 -- a row where the first word is a number
 abbrev pub by_type : List ℕ → List ℕ → Option ℕ → Option Line

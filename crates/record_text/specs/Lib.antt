@@ -1,6 +1,8 @@
 pub mod Causes
 pub mod Console
 pub mod Guesses
+pub mod HexBytes
 pub mod ImageGuesses
 pub mod ImageTexts
+pub mod Services
 pub mod Texts

@@ -1,12 +1,14 @@
 -- The text of each line, without the line end.
-use Rattle.std.specs.Prelude.{◌≡◌, ◌<◌, ◌^◌, ◌++◌, ℕ, true, List, ◌∷◌, codes}
+use Rattle.std.specs.Prelude.{◌≡◌, ◌<◌, ◌≤◌, ◌+◌, length, ◌^◌, ◌++◌, ℕ, true, List, ◌∷◌, codes}
 use Rattle.std.specs.Fmt.{decimal}
 use Rattle.uh_base.specs.Hex.{hex_digits}
 use Rattle.uh_base.specs.Names.{is_name}
 use Rattle.uh_base.specs.ConsoleText.{IsConsoleText}
 use Rattle.record_text.specs.Causes.{cause_name}
+use Rattle.record_text.specs.Services.{service_name, is_service}
+use Rattle.record_text.specs.HexBytes.{bytes_text, AreSome}
 use Rattle.record_text.specs.declared.line.Line.{Line}
-use Rattle.record_text.specs.declared.line.Line.TheVariants.{Console, Load, Start, MemmapKey, MemmapRow, Halt, End}
+use Rattle.record_text.specs.declared.line.Line.TheVariants.{Console, Svc, Load, Start, Unload, ExitBoot, Bytes, Peek, PeekFault, MemmapKey, MemmapRow, Vars, Reset, Halt, End}
 
 -- a word, a space and what follows
 abbrev pub spaced : List ℕ → List ℕ → List ℕ
@@ -14,30 +16,54 @@ spaced word rest = word ++ 32 ∷ rest
 
 unfoldable pub text_of : Line → List ℕ
 text_of (Console text) = spaced (codes "console") text
+text_of (Svc slot h0) = spaced (codes "svc") (spaced (service_name slot) (hex_digits 16 h0))
 text_of (Load name h0 h1 pages) = spaced (codes "load") (spaced name (spaced (hex_digits 16 h0) (spaced (hex_digits 16 h1) (decimal pages))))
 text_of (Start name h0 steps) = spaced (codes "start") (spaced name (spaced (hex_digits 16 h0) (decimal steps)))
+text_of (Unload name h0) = spaced (codes "unload") (spaced name (hex_digits 16 h0))
+text_of (ExitBoot h0) = spaced (codes "exit_boot") (hex_digits 16 h0)
+text_of (Bytes offset hex) = spaced (codes "bytes") (spaced (decimal offset) (bytes_text hex))
+text_of (Peek h0 hex) = spaced (codes "peek") (spaced (hex_digits 16 h0) (bytes_text hex))
+text_of (PeekFault h0) = spaced (codes "peek") (spaced (hex_digits 16 h0) (codes "fault"))
 text_of (MemmapKey key) = spaced (codes "memmap") (decimal key)
 text_of (MemmapRow memory_type h0 pages h1) = spaced (decimal memory_type) (spaced (hex_digits 16 h0) (spaced (decimal pages) (hex_digits 16 h1)))
+text_of (Vars hex) = spaced (codes "vars") (bytes_text hex)
+text_of (Reset kind h0) = spaced (codes "reset") (spaced (decimal kind) (hex_digits 16 h0))
 text_of (Halt cause h0 h1) = spaced (codes "halt") (spaced (cause_name cause) (spaced (hex_digits 16 h0) (hex_digits 16 h1)))
 text_of End = codes "end"
 
 -- The words of a line keep their forms.
 abbrev pub HasForms : Line → Type 0
 HasForms (Console text) = IsConsoleText text
+HasForms (Svc slot h0) = is_service slot ≡ true
 HasForms (Load name h0 h1 pages) = is_name name ≡ true
 HasForms (Start name h0 steps) = is_name name ≡ true
+HasForms (Unload name h0) = is_name name ≡ true
+HasForms (ExitBoot h0) = Unit {0}
+HasForms (Bytes offset hex) = AreSome hex × (length hex ≤ 4096) × (offset + length hex ≤ 65536)
+HasForms (Peek h0 hex) = AreSome hex × (length hex ≤ 4096)
+HasForms (PeekFault h0) = Unit {0}
 HasForms (MemmapKey key) = Unit {0}
 HasForms (MemmapRow memory_type h0 pages h1) = Unit {0}
+HasForms (Vars hex) = AreSome hex
+HasForms (Reset kind h0) = Unit {0}
 HasForms (Halt cause h0 h1) = Unit {0}
 HasForms End = Unit {0}
 
 -- The numbers of a line fit their types.
 abbrev pub Fits : Line → Type 0
 Fits (Console text) = Unit {0}
+Fits (Svc slot h0) = (slot < 2 ^ 8) × (h0 < 2 ^ 64)
 Fits (Load name h0 h1 pages) = (h0 < 2 ^ 64) × (h1 < 2 ^ 64) × (pages < 2 ^ 32)
 Fits (Start name h0 steps) = (h0 < 2 ^ 64) × (steps < 2 ^ 64)
+Fits (Unload name h0) = h0 < 2 ^ 64
+Fits (ExitBoot h0) = h0 < 2 ^ 64
+Fits (Bytes offset hex) = offset < 2 ^ 32
+Fits (Peek h0 hex) = h0 < 2 ^ 64
+Fits (PeekFault h0) = h0 < 2 ^ 64
 Fits (MemmapKey key) = key < 2 ^ 64
 Fits (MemmapRow memory_type h0 pages h1) = (memory_type < 2 ^ 32) × (h0 < 2 ^ 64) × (pages < 2 ^ 64) × (h1 < 2 ^ 64)
+Fits (Vars hex) = Unit {0}
+Fits (Reset kind h0) = (kind < 2 ^ 32) × (h0 < 2 ^ 64)
 Fits (Halt cause h0 h1) = (h0 < 2 ^ 64) × (h1 < 2 ^ 64)
 Fits End = Unit {0}
 

@@ -17,7 +17,8 @@ fn is_surrogate(unit: u32) -> bool
     unit >= 0xd800 && unit <= 0xdfff
 }
 
-fn is_digit(byte: u8) -> bool
+/// A hexadecimal digit in lower case.
+pub(crate) fn is_digit(byte: u8) -> bool
     ensures { result ≡ is_digit byte }
 {
     byte >= b'0' && byte <= b'9' || byte >= b'a' && byte <= b'f'
@@ -25,7 +26,7 @@ fn is_digit(byte: u8) -> bool
 
 /// What a lower-case hexadecimal digit stands for.
 #[tactic(auto, unfolding(crate::specs::Console::digit))]
-fn digit(byte: u8) -> u32
+pub(crate) fn digit(byte: u8) -> u32
     requires { IsTrue (is_digit byte) }
     ensures value { result ≡ digit byte }
     ensures small { result < 16 }

@@ -1,12 +1,15 @@
 //! Reading a line back: the line that a text may be is guessed, its text is written, and the two are compared.
-ghost use Rattle.std.specs.Prelude.{◌≡◌, IfOk, IfSome, IfNone, IsTrue};
+ghost use Rattle.std.specs.Prelude.{◌≡◌, IfOk, IfSome, IfNone, IsTrue, ◌≤◌, ◌+◌, length};
 ghost use Rattle.record_text.specs.Texts.{text_of, IsLine, HasForms};
-ghost use Rattle.record_text.specs.Guesses.{cut, seen_cut, small_number, load_of, start_of, memmap_of, row_of, halt_of, with_word, behind_word, guess_of};
+ghost use Rattle.record_text.specs.Guesses.{cut, seen_cut, small_number, load_of, svc_of, start_of, unload_of, exit_boot_of, shown_of, peeked, peek_of, vars_of, memmap_of, row_of, reset_of, halt_of, with_later_word, with_word, behind_word, guess_of};
+ghost use Rattle.record_text.specs.HexBytes.{AreSome, bytes_of};
 ghost use Rattle.record_text.specs.declared.line.Line.{Line as AnyLine};
 
 use crate::cause::cause_of;
 use crate::console::is_console_text;
+use crate::hex_bytes::bytes_of;
 use crate::line::Line;
+use crate::service::{service_name, service_slot};
 use crate::writing::line_text;
 use std::alloc::{AllocError, Global};
 use uh_base::{Text, decimals_read_back, hexadecimal, hexadecimals_read_back, is_name, number};
@@ -27,6 +30,16 @@ pub(crate) fn small_number(text: &str) -> Option<u32>
         Some(n) => if n < 1 << 32 { Some(n as u32) } else { None },
         None => None,
     }
+}
+
+#[tactic(auto, unfolding(crate::specs::Guesses::svc_of))]
+fn svc_of(text: &str) -> Option<Line>
+    ensures { result ≡ svc_of text.now }
+{
+    let (name, first) = cut(text)?;
+    let slot = service_slot(name)?;
+    let h0 = hexadecimal(first.as_bytes())?;
+    Some(Line::Svc { slot, h0 })
 }
 
 #[tactic(auto, unfolding(crate::specs::Guesses::load_of))]
@@ -80,6 +93,81 @@ fn start_of(alloc: Global, text: &str) -> Result<Option<Line>, AllocError>
     Ok(Some(Line::Start { name, h0, steps }))
 }
 
+#[tactic(auto, unfolding(crate::specs::Guesses::unload_of))]
+fn unload_of(alloc: Global, text: &str) -> Result<Option<Line>, AllocError>
+    ensures { IfOk result (λ line. line ≡ unload_of text.now) }
+{
+    let Some((name, first)) = cut(text) else {
+        return Ok(None);
+    };
+    let Some(h0) = hexadecimal(first.as_bytes()) else {
+        return Ok(None);
+    };
+    let name = Text::new(alloc, name)?;
+    Ok(Some(Line::Unload { name, h0 }))
+}
+
+#[tactic(auto, unfolding(crate::specs::Guesses::exit_boot_of))]
+fn exit_boot_of(text: &str) -> Option<Line>
+    ensures { result ≡ exit_boot_of text.now }
+{
+    let h0 = hexadecimal(text.as_bytes())?;
+    Some(Line::ExitBoot { h0 })
+}
+
+#[tactic(auto, unfolding(crate::specs::Guesses::shown_of))]
+fn shown_of(alloc: Global, text: &str) -> Result<Option<Line>, AllocError>
+    ensures { IfOk result (λ line. line ≡ shown_of text.now) }
+{
+    let Some((word, rest)) = cut(text) else {
+        return Ok(None);
+    };
+    let Some(offset) = small_number(word) else {
+        return Ok(None);
+    };
+    match bytes_of(alloc, rest)? {
+        Some(hex) => Ok(Some(Line::Bytes { offset, hex })),
+        None => Ok(None),
+    }
+}
+
+/// What was found at an address: bytes, or a fault.
+fn peeked(alloc: Global, h0: u64, word: &str) -> Result<Option<Line>, AllocError>
+    ensures { IfOk result (λ line. line ≡ peeked h0 word.now (bytes_of word.now)) }
+{
+    match bytes_of(alloc, word)? {
+        Some(hex) => Ok(Some(Line::Peek { h0, hex })),
+        None => if word == "fault" {
+            Ok(Some(Line::PeekFault { h0 }))
+        } else {
+            Ok(None)
+        },
+    }
+}
+
+#[tactic(auto, unfolding(crate::specs::Guesses::peek_of))]
+fn peek_of(alloc: Global, text: &str) -> Result<Option<Line>, AllocError>
+    ensures { IfOk result (λ line. line ≡ peek_of text.now) }
+{
+    let Some((first, rest)) = cut(text) else {
+        return Ok(None);
+    };
+    let Some(h0) = hexadecimal(first.as_bytes()) else {
+        return Ok(None);
+    };
+    peeked(alloc, h0, rest)
+}
+
+#[tactic(auto, unfolding(crate::specs::Guesses::vars_of))]
+fn vars_of(alloc: Global, text: &str) -> Result<Option<Line>, AllocError>
+    ensures { IfOk result (λ line. line ≡ vars_of text.now) }
+{
+    match bytes_of(alloc, text)? {
+        Some(hex) => Ok(Some(Line::Vars { hex })),
+        None => Ok(None),
+    }
+}
+
 #[tactic(auto, unfolding(crate::specs::Guesses::memmap_of))]
 fn memmap_of(text: &str) -> Option<Line>
     ensures { result ≡ memmap_of text.now }
@@ -106,6 +194,16 @@ fn row_of(memory_type: u32, text: &str) -> Option<Line>
     })
 }
 
+#[tactic(auto, unfolding(crate::specs::Guesses::reset_of))]
+fn reset_of(text: &str) -> Option<Line>
+    ensures { result ≡ reset_of text.now }
+{
+    let (word, first) = cut(text)?;
+    let kind = small_number(word)?;
+    let h0 = hexadecimal(first.as_bytes())?;
+    Some(Line::Reset { kind, h0 })
+}
+
 #[tactic(auto, unfolding(crate::specs::Guesses::halt_of))]
 fn halt_of(text: &str) -> Option<Line>
     ensures { result ≡ halt_of text.now }
@@ -116,6 +214,28 @@ fn halt_of(text: &str) -> Option<Line>
     let h0 = hexadecimal(first.as_bytes())?;
     let h1 = hexadecimal(second.as_bytes())?;
     Some(Line::Halt { cause, h0, h1 })
+}
+
+#[tactic(auto, unfolding(crate::specs::Guesses::with_later_word))]
+fn with_later_word(alloc: Global, word: &str, rest: &str) -> Result<Option<Line>, AllocError>
+    ensures { IfOk result (λ line. line ≡ with_later_word word.now rest.now) }
+{
+    if word == "unload" {
+        return unload_of(alloc, rest);
+    }
+    if word == "exit_boot" {
+        return Ok(exit_boot_of(rest));
+    }
+    if word == "bytes" {
+        return shown_of(alloc, rest);
+    }
+    if word == "peek" {
+        return peek_of(alloc, rest);
+    }
+    if word == "vars" {
+        return vars_of(alloc, rest);
+    }
+    Ok(None)
 }
 
 #[tactic(auto, unfolding(crate::specs::Guesses::with_word))]
@@ -135,10 +255,16 @@ fn with_word(alloc: Global, word: &str, rest: &str) -> Result<Option<Line>, Allo
     if word == "memmap" {
         return Ok(memmap_of(rest));
     }
+    if word == "svc" {
+        return Ok(svc_of(rest));
+    }
+    if word == "reset" {
+        return Ok(reset_of(rest));
+    }
     if word == "halt" {
         return Ok(halt_of(rest));
     }
-    Ok(None)
+    with_later_word(alloc, word, rest)
 }
 
 /// A row where the first word is a number.
@@ -167,6 +293,22 @@ fn guess_of(alloc: Global, text: &str) -> Result<Option<Line>, AllocError>
     }
 }
 
+/// Whether there is a byte.
+fn are_some(bytes: &[u8]) -> bool
+    ensures sound { IsTrue result → AreSome bytes.now }
+    ensures all { AreSome bytes.now → IsTrue result }
+{
+    !bytes.is_empty()
+}
+
+/// Whether 1 to 4,096 bytes from an offset on lie below 65,536.
+fn are_shown(offset: u32, bytes: &[u8]) -> bool
+    ensures sound { IsTrue result → (AreSome bytes.now × (length bytes.now ≤ 4096) × (offset + length bytes.now ≤ 65536)) }
+    ensures all { (AreSome bytes.now × (length bytes.now ≤ 4096) × (offset + length bytes.now ≤ 65536)) → IsTrue result }
+{
+    are_some(bytes) && bytes.len() <= 4096 && offset as usize + bytes.len() <= 65536
+}
+
 /// Whether the words of a line keep their forms.
 fn has_forms(line: &Line) -> bool
     ensures sound { IsTrue result → HasForms line.now }
@@ -174,10 +316,18 @@ fn has_forms(line: &Line) -> bool
 {
     match line {
         Line::Console { text } => is_console_text(text.as_str()),
+        Line::Svc { slot, .. } => !service_name(*slot).is_empty(),
         Line::Load { name, .. } => is_name(name.as_str()),
         Line::Start { name, .. } => is_name(name.as_str()),
+        Line::Unload { name, .. } => is_name(name.as_str()),
+        Line::ExitBoot { .. } => true,
+        Line::Bytes { offset, hex } => are_shown(*offset, hex.as_slice()),
+        Line::Peek { hex, .. } => are_shown(0, hex.as_slice()),
+        Line::PeekFault { .. } => true,
+        Line::Vars { hex } => are_some(hex.as_slice()),
         Line::MemmapKey { .. } => true,
         Line::MemmapRow { .. } => true,
+        Line::Reset { .. } => true,
         Line::Halt { .. } => true,
         Line::End => true,
     }

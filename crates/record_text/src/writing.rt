@@ -3,7 +3,9 @@ ghost use Rattle.std.specs.Prelude.{◌≡◌, IfOk, string_bytes};
 ghost use Rattle.uh_base.specs.Hex.{hex_digits};
 ghost use Rattle.record_text.specs.Texts.{text_of};
 
+use crate::hex_bytes::bytes_text;
 use crate::line::Line;
+use crate::service::service_name;
 use std::alloc::{AllocError, Global};
 use uh_base::hex_text;
 
@@ -21,6 +23,10 @@ pub fn line_text(alloc: Global, line: &Line) -> Result<String, AllocError>
 {
     match line {
         Line::Console { text } => format!(in alloc; "console {}", text.as_str()),
+        Line::Svc { slot, h0 } => {
+            let h0 = word(alloc, *h0)?;
+            format!(in alloc; "svc {} {}", service_name(*slot), h0.as_str())
+        }
         Line::Load {
             name,
             h0,
@@ -41,6 +47,27 @@ pub fn line_text(alloc: Global, line: &Line) -> Result<String, AllocError>
             let h0 = word(alloc, *h0)?;
             format!(in alloc; "start {} {} {}", name.as_str(), h0.as_str(), *steps)
         }
+        Line::Unload { name, h0 } => {
+            let h0 = word(alloc, *h0)?;
+            format!(in alloc; "unload {} {}", name.as_str(), h0.as_str())
+        }
+        Line::ExitBoot { h0 } => {
+            let h0 = word(alloc, *h0)?;
+            format!(in alloc; "exit_boot {}", h0.as_str())
+        }
+        Line::Bytes { offset, hex } => {
+            let hex = bytes_text(alloc, hex.as_slice())?;
+            format!(in alloc; "bytes {} {}", *offset, hex.as_str())
+        }
+        Line::Peek { h0, hex } => {
+            let h0 = word(alloc, *h0)?;
+            let hex = bytes_text(alloc, hex.as_slice())?;
+            format!(in alloc; "peek {} {}", h0.as_str(), hex.as_str())
+        }
+        Line::PeekFault { h0 } => {
+            let h0 = word(alloc, *h0)?;
+            format!(in alloc; "peek {} fault", h0.as_str())
+        }
         Line::MemmapKey { key } => format!(in alloc; "memmap {}", *key),
         Line::MemmapRow {
             memory_type,
@@ -57,6 +84,14 @@ pub fn line_text(alloc: Global, line: &Line) -> Result<String, AllocError>
                 *pages,
                 h1.as_str()
             )
+        }
+        Line::Vars { hex } => {
+            let hex = bytes_text(alloc, hex.as_slice())?;
+            format!(in alloc; "vars {}", hex.as_str())
+        }
+        Line::Reset { kind, h0 } => {
+            let h0 = word(alloc, *h0)?;
+            format!(in alloc; "reset {} {}", *kind, h0.as_str())
         }
         Line::Halt { cause, h0, h1 } => {
             let h0 = word(alloc, *h0)?;

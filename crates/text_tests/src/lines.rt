@@ -44,6 +44,29 @@ fn texts_of_lines(rt: HostRuntime) -> Result<(), Fail> {
 }
 
 #[test]
+fn texts_of_lines_of_services_and_bytes(rt: HostRuntime) -> Result<(), Fail> {
+    let alloc = rt.alloc();
+    for text in [
+        "svc RaiseTPL 0000000000000004",
+        "svc UninstallMultipleProtocolInterfaces 8000000000000002",
+        "svc Reset 0000000000000000",
+        "svc ResetSystem 0000000000000000",
+        "reset 2 8000000000000007",
+        "unload app 8000000000000003",
+        "exit_boot 0000000000000000",
+        "bytes 65535 ff",
+        "peek 0000000040000000 00ff",
+        "peek ffffffffffffffff fault",
+        "vars 5556533100000000",
+    ] {
+        let line = read_line(alloc, text)?.ok_or("no line")?;
+        let back = line_text(alloc, &line)?;
+        assert!(rt; back.as_str() == text, "{text}");
+    }
+    Ok(())
+}
+
+#[test]
 fn texts_of_memory_maps(rt: HostRuntime) -> Result<(), Fail> {
     let alloc = rt.alloc();
     for text in [
@@ -132,6 +155,16 @@ fn texts_of_no_line(rt: HostRuntime) -> Result<(), Fail> {
         "7 0000000040000000  0000000000000008",
         "4294967296 0000000040000000 4025 0000000000000008",
         "7",
+        "svc  0000000000000000",
+        "bytes 65535 ff00",
+        "bytes 0 ",
+        "peek 0000000040000000 0F",
+        "peek 0000000040000000 fff",
+        "vars ",
+        "svc RaiseTpl 0000000000000004",
+        "svc RaiseTPL 4",
+        "reset 02 0000000000000000",
+        "reset 4294967296 0000000000000000",
         "stop",
     ] {
         assert!(rt; read_line(alloc, text)?.is_none(), "{text}");

@@ -27,7 +27,7 @@ fn compare(
 }
 
 /// Top tables, each with its fault.
-const DOCUMENTS: [(&str, u32, ScriptKind); 26] = [
+const DOCUMENTS: [(&str, u32, ScriptKind); 37] = [
     ("", 0, ScriptKind::Missing),
     ("# a comment alone\n", 0, ScriptKind::Missing),
     ("[[step", 0, ScriptKind::Text),
@@ -36,10 +36,25 @@ const DOCUMENTS: [(&str, u32, ScriptKind); 26] = [
     ("steps = 1\n", 0, ScriptKind::Key),
     ("\"\" = 1\n", 0, ScriptKind::Key),
     (
-        "trace = true\n[[step]]\ndo = \"load\"\n",
+        "traces = true\n[[step]]\ndo = \"load\"\n",
         0,
         ScriptKind::Key,
     ),
+    ("time = 2024-01-01T00:00:00\n", 0, ScriptKind::Shape),
+    ("time = \"2023-02-29T00:00:00\"\n", 0, ScriptKind::Value),
+    ("time = \"2024-01-01\"\nticks = 3\n", 0, ScriptKind::Value),
+    ("ticks = \"3\"\n", 0, ScriptKind::Shape),
+    ("ticks = [\"x\", 3]\n", 0, ScriptKind::Shape),
+    ("ticks = [\"0\"]\n", 0, ScriptKind::Value),
+    ("ticks = [\"3\", \"3\"]\n", 0, ScriptKind::Value),
+    (
+        "ticks = [\"3\", \"4\"]\nos_virtual = 1\n",
+        0,
+        ScriptKind::Shape,
+    ),
+    ("os_virtual = \"01\"\n", 0, ScriptKind::Value),
+    ("trace = \"true\"\n", 0, ScriptKind::Shape),
+    ("store = 1\n", 0, ScriptKind::Shape),
     ("image = 3\n", 0, ScriptKind::Shape),
     ("image = 2024-01-01\n", 0, ScriptKind::Shape),
     ("image = [1]\n", 0, ScriptKind::Shape),
