@@ -1,244 +1,249 @@
--- A job is what its next turn that isn't silent says, and the rest.
-use Rattle.std.proofs.Common.{◌≡◌, ◌≢◌, ℕ, zero, suc, ◌+◌, ◌≤◌, ◌<◌, ◌-◌, Option, Some, None, Result, Ok, Err, IfOk, Bool, true, false, refl, sym, ap, subst, ◌∙◌, arith}
-use Rattle.std.specs.Option.{is_some}
+-- A job is its next turn, and the rest of it.
+use Rattle.std.proofs.Common.{◌≡◌, ◌≢◌, ◌⊎◌, inl, inr, ℕ, zero, suc, ◌+◌, ◌≤◌, ◌<◌, ◌-◌, ◌&&◌, Bool, true, false, not, List, [], ◌∷◌, length, Option, Some, None, refl, sym, ap, subst, ◌∙◌, arith}
+use Rattle.std.specs.Prelude.{◌==◌, nat_lt, if◌then◌else◌}
+use Rattle.std.specs.List.{find, filter}
+use Rattle.std.proofs.lemmas.Bool.Decides.{nat_tests}
 use Rattle.record_text.specs.declared.cause.Cause.TheVariants as causes
+use Rattle.event_queue.specs.declared.event.Entry.{Entry}
+use Rattle.event_queue.specs.declared.event.Notify.{Notify}
+use Rattle.event_queue.specs.Queue.{EventList, is_entry, greatest, next_entry, notified, after_next}
+use Rattle.event_queue.specs.Timers.{has_moment, ticked, after_tick}
+use Rattle.event_queue.specs.Laws.{TicksOnce}
 use Rattle.firmware_core.specs.declared.happened.Happened.{Happened}
-use Rattle.firmware_core.specs.declared.happened.Happened.TheVariants.{Turned, Said, Left, Halted}
-use Rattle.rv_step.specs.declared.ends.StepEnd.TheVariants as ends
-use Rattle.rv_step.specs.declared.ends.Trap.{Trap}
+use Rattle.firmware_core.specs.declared.happened.Happened.TheVariants.{Turned, Said, Left, Reset, Halted}
 use Rattle.firmware_core.specs.declared.happened.Halt.{Halt}
 use Rattle.firmware_core.specs.Parts.{Parts}
-use Rattle.firmware_core.specs.Turns.{State, Turn, turn_of, instruction_turn, halted, trapped, instructed, slot_at, counted}
-use Rattle.firmware_core.specs.Jobs.{Job, joined, said_before, turns_of, steps_left, job_of, or_next, first_said, next_said, goes_on, Says}
-use Rattle.firmware_core.proofs.TurnLemmas.{turn_counts, last_turn, plain_turn, plain_is, trap_is, frames_is}
+use Rattle.firmware_core.specs.Frames.{tick_is_due, with_tick, notice_of, without_notice, with_notification, is_full}
+use Rattle.firmware_core.specs.Turns.{State, Turn, Tick, Notice, with_firmware, tick_turn, notice_turn, next_turn, turn_of, halted}
+use Rattle.firmware_core.specs.Jobs.{Job, counts, or_next, uncounted, most_uncounted, settled, joined, said_before, at_bound, turns_of, steps_left, job_of, goes_on, JobsAreTurns}
+use Rattle.firmware_core.proofs.TurnLemmas.{Comes, Ticks, Notices, Neither, comes, counted_counts, next_is_tick, next_is_notice, next_is_counted, turn_is, full_turn, turn_counts, turn_keeps, turn_happens, last_turn}
 
--- ---- a silent turn
+-- ---- what starts leaves the queue
 
-module _ (s : State) (within : s.steps ≤ s.bound) where
-  silent_by : (n : ℕ) → n ≡ steps_left s → (turn_of s).happened ≡ Turned → first_said n s ≡ next_said (turn_of s).state
-  unfolding first_said
-  silent_by zero e h =
-      let same : s.steps ≡ s.bound = omega arith in
-      let last = last_turn s same in
-      let bad : Turned ≡ halted causes.Bound s.firmware.hart.pc 0 = sym h ∙ ap (λ (t : Turn). t.happened) last in
-      let bad2 : ⊥ = cc in absurd bad2
-  silent_by (suc n) e h =
-      let counts = turn_counts s (ap goes_on h) in
-      let k = counts.0 in let b = counts.1 in
-      let left : n ≡ steps_left (turn_of s).state = omega arith in
-      rw h (ap (λ m. first_said m (turn_of s).state) left)
+not_more : (p : Entry → Bool) (queue : List Entry) → length (filter p queue) ≤ length queue
+not_more p [] = omega arith
+not_more p (entry ∷ queue) = by (p entry) (not_more p queue)
+  where
+    by : (b : Bool) → length (filter p queue) ≤ length queue → length (if b then entry ∷ filter p queue else filter p queue) ≤ length (entry ∷ queue)
+    by true h = omega (arith, h)
+    by false h = omega (arith, h)
 
-  pub silent_goes : (turn_of s).happened ≡ Turned → next_said s ≡ next_said (turn_of s).state
-  silent_goes h = silent_by (steps_left s) refl h
+abbrev Others : Entry → Entry → Bool
+Others entry other = not (is_entry entry.event other)
 
-  said_first : (n : ℕ) (t : Turn) (h : Happened) → t.happened ≡ h → (h ≡ Turned → ⊥) → (rest : Turn) → or_next t h rest ≡ t
-  said_first n t Turned e loud rest = absurd (loud refl)
-  said_first n t (Said line) e loud rest = refl
-  said_first n t (Left value steps) e loud rest = refl
-  said_first n t (Halted halt) e loud rest = refl
+same_entry : (n : ℕ) → not (n == n) ≡ false
+same_entry n = grind (arith, nat_tests)
 
-  loud_by : (n : ℕ) → ((turn_of s).happened ≡ Turned → ⊥) → first_said n s ≡ turn_of s
-  unfolding first_said
-  loud_by zero loud = refl
-  loud_by (suc n) loud = said_first n (turn_of s) (turn_of s).happened refl loud (first_said n (turn_of s).state)
+module _ (p : Entry → Bool) (entry first : Entry) (queue : List Entry) where
+  kept_or_not : (b : Bool) → length (filter (Others entry) queue) < length queue → length (if b then first ∷ filter (Others entry) queue else filter (Others entry) queue) < length (first ∷ queue)
+  kept_or_not true k = omega (arith, k)
+  kept_or_not false k = omega (arith, k)
 
-  pub loud_is : ((turn_of s).happened ≡ Turned → ⊥) → next_said s ≡ turn_of s
-  loud_is loud = loud_by (steps_left s) loud
+  dropped : first ≡ entry → length (if Others entry first then first ∷ filter (Others entry) queue else filter (Others entry) queue) < length (first ∷ queue)
+  dropped e = rw e (rw (same_entry entry.event) (let k = not_more (Others entry) queue in omega (arith, k)))
 
-below_by : (s : State) → s.steps ≤ s.bound → (turn_of s).happened ≡ Turned → (n : ℕ) → n ≡ s.bound - s.steps → s.steps < s.bound
-below_by s within e zero h =
-    let same : s.steps ≡ s.bound = omega arith in
-    let bad : Turned ≡ halted causes.Bound s.firmware.hart.pc 0 = sym e ∙ ap (λ (t : Turn). t.happened) (last_turn s same) in
-    let none : ⊥ = cc in absurd none
-below_by s within e (suc n) h = omega arith
+  found_by : (b : Bool) → (if b then Some first else find p queue) ≡ Some entry → (find p queue ≡ Some entry → length (filter (Others entry) queue) < length queue) → length (filter (Others entry) (first ∷ queue)) < length (first ∷ queue)
+  found_by true e rest = dropped (cc)
+  found_by false e rest = kept_or_not (Others entry first) (rest e)
 
--- a turn that counts a step comes before the bound
-pub counts_below : (s : State) → s.steps ≤ s.bound → (turn_of s).happened ≡ Turned → s.steps < s.bound
-counts_below s within e = below_by s within e (s.bound - s.steps) refl
+found_leaves : (p : Entry → Bool) (entry : Entry) (queue : List Entry) → find p queue ≡ Some entry → length (filter (Others entry) queue) < length queue
+found_leaves p entry [] h = let bad : ⊥ = cc in absurd bad
+found_leaves p entry (first ∷ queue) h = found_by p entry first queue (p first) h (found_leaves p entry queue)
 
--- ---- the job
+next_found : (queue : List Entry) (tpl : ℕ) (entry : Entry) → next_entry queue tpl ≡ Some entry → find (λ other. other.tpl == greatest queue) queue ≡ Some entry
+unfolding next_entry
+next_found queue tpl entry h = by (nat_lt tpl (greatest queue)) h
+  where
+    by : (b : Bool) → (if b then find (λ other. other.tpl == greatest queue) queue else None) ≡ Some entry → find (λ other. other.tpl == greatest queue) queue ≡ Some entry
+    by true k = k
+    by false k = let bad : ⊥ = cc in absurd bad
 
-abbrev pub Goes : ℕ → State → Type 0
-Goes n s = turns_of n s ≡ joined (first_said n s).happened (first_said n s).state (job_of (first_said n s).state)
+-- ---- how many turns that count no step may come
 
-halts_alike : (s : State) (rest other : Job) → joined (halted causes.Bound s.firmware.hart.pc 0) s rest ≡ joined (halted causes.Bound s.firmware.hart.pc 0) s other
-halts_alike s rest other = refl
+quiet_events : (e : EventList) (t : ℕ) → has_moment e t ≡ false → after_tick e t ≡ e
+unfolding after_tick
+quiet_events e t h = rw h refl
 
-no_more : (s : State) → zero ≡ steps_left s → s.steps ≤ s.bound → Goes zero s
-unfolding turns_of first_said
-no_more s e within = let same : s.steps ≡ s.bound = omega arith in let last = last_turn s same in rw last refl
+due_events_tick : (e : EventList) (t : ℕ) → has_moment e t ≡ true → after_tick e t ≡ ticked e t
+unfolding after_tick
+due_events_tick e t h = rw h refl
 
-module _ (n : ℕ) (s : State) (left : suc n ≡ steps_left s) (rest : (t : State) → n ≡ steps_left t → t.steps ≤ t.bound → Goes n t) where
-  next_left : (turn_of s).state.steps ≡ s.steps + 1 → (turn_of s).state.bound ≡ s.bound → n ≡ steps_left (turn_of s).state
-  next_left k b = omega arith
+abbrev one_if : Bool → ℕ
+one_if true = 1
+one_if false = 0
 
-  next_within : (turn_of s).state.steps ≡ s.steps + 1 → (turn_of s).state.bound ≡ s.bound → (turn_of s).state.steps ≤ (turn_of s).state.bound
-  next_within k b = omega arith
+-- a tick where one is due, and a start for each notification that then stands in the queue
+abbrev need : State → ℕ
+need s = one_if (tick_is_due s.firmware) + length (after_tick s.firmware.events s.firmware.time).queue
 
-  by_turn : (h : Happened) → (turn_of s).happened ≡ h → Goes (suc n) s
-  unfolding turns_of first_said
-  by_turn Turned e =
-      let counts = turn_counts s (ap goes_on e) in
-      rw e (rest (turn_of s).state (next_left counts.0 counts.1) (next_within counts.0 counts.1))
-  by_turn (Said line) e =
-      let counts = turn_counts s (ap goes_on e) in
-      rw e (ap (λ k. said_before line (turns_of k (turn_of s).state)) (next_left counts.0 counts.1))
-  by_turn (Left value steps) e = rw e refl
-  by_turn (Halted halt) e = rw e refl
+at_most_one : (b : Bool) → one_if b ≤ 1
+at_most_one true = omega arith
+at_most_one false = omega arith
 
-goes : (n : ℕ) (s : State) → n ≡ steps_left s → s.steps ≤ s.bound → Goes n s
-goes zero s e within = no_more s e within
-goes (suc n) s e within = by_turn n s e (goes n) (turn_of s).happened refl
+need_is : (s : State) → need s ≡ one_if (tick_is_due s.firmware) + length (after_tick s.firmware.events s.firmware.time).queue
+need_is s = refl
 
-pub jobs_are_said : (s : State) → s.steps ≤ s.bound → job_of s ≡ joined (next_said s).happened (next_said s).state (job_of (next_said s).state)
-jobs_are_said s within = goes (steps_left s) s refl within
+enough : (s : State) → need s ≤ most_uncounted s
+enough s = let one = at_most_one (tick_is_due s.firmware) in let is = need_is s in omega (arith, one, is)
 
--- ---- a job under way
+quiet_need : (s : State) → tick_is_due s.firmware ≡ false → need s ≡ length s.firmware.events.queue
+quiet_need s h =
+    let none : one_if (tick_is_due s.firmware) ≡ 0 = ap one_if h in
+    let same : length (after_tick s.firmware.events s.firmware.time).queue ≡ length s.firmware.events.queue = ap (λ (e : EventList). length e.queue) (quiet_events s.firmware.events s.firmware.time h) in
+    let is = need_is s in
+    omega (arith, none, same, is)
 
--- So far the machine said nothing, and the next turn that says something is the same. At first nothing has changed, and the first
--- instruction is one turn.
-pub record Silent (old now : State) (step end : ℕ) : Type 0 where
-  pub said : next_said now ≡ next_said old
-  pub at : now.steps ≡ step
-  pub bound : now.bound ≡ old.bound
-  pub last : end ≤ old.bound
-  pub since : old.steps ≤ step
-  pub first : step ≡ old.steps → now ≡ old
-  pub second : step ≡ old.steps + 1 → record { happened = Turned; state = now } ≡ instruction_turn old
+due_need : (s : State) → tick_is_due s.firmware ≡ true → need s ≡ length (after_tick s.firmware.events s.firmware.time).queue + 1
+due_need s h =
+    let one : one_if (tick_is_due s.firmware) ≡ 1 = ap one_if h in
+    let is = need_is s in
+    omega (arith, one, is)
 
-module _ (old now : State) (step end : ℕ) (silent : Silent old now step end) (below : step < end) where
-  pub steps_below : now.steps < now.bound
-  steps_below = let at = silent.at in let bound = silent.bound in let last = silent.last in omega arith
+module _ (once : TicksOnce) where
+  tick_falls : (s : State) → tick_is_due s.firmware ≡ true → need (tick_turn s).state < need s
+  tick_falls s h =
+      let is = due_events_tick s.firmware.events s.firmware.time h in
+      let quiet : has_moment (ticked s.firmware.events s.firmware.time) s.firmware.time ≡ false = ap (λ (e : EventList). has_moment e s.firmware.time) (sym is) ∙ once s.firmware.events s.firmware.time in
+      let after : need (tick_turn s).state ≡ length (ticked s.firmware.events s.firmware.time).queue = quiet_need (tick_turn s).state quiet in
+      let before = due_need s h in
+      let same : length (after_tick s.firmware.events s.firmware.time).queue ≡ length (ticked s.firmware.events s.firmware.time).queue = ap (λ (e : EventList). length e.queue) is in
+      omega (arith, after, before, same)
 
-  pub goes_silently : (new : Parts) (t : State) → slot_at now.firmware ≡ None → record { end = ends.Next; firmware = new } ≡ instructed now.firmware → t ≡ counted now new → Silent old t (step + 1) end
-  goes_silently new t none instructed_now is =
-      let turn = plain_turn now new steps_below none instructed_now in
-      let within : now.steps ≤ now.bound = let b = steps_below in omega arith in
-      let said : next_said now ≡ next_said (turn_of now).state = silent_goes now within (ap (λ (x : Turn). x.happened) turn) in
-      let state : (turn_of now).state ≡ t = ap (λ (x : Turn). x.state) turn ∙ sym is in
-      let at = silent.at in let since = silent.since in
-      let steps : t.steps ≡ now.steps + 1 = ap (λ (x : State). x.steps) is in
-      record {
-        said = sym (said ∙ ap next_said state) ∙ silent.said;
-        at = steps ∙ ap (λ k. k + 1) at;
-        bound = ap (λ (x : State). x.bound) is ∙ silent.bound;
-        last = silent.last;
-        since = omega arith;
-        first = λ e. (let none : ⊥ = omega arith in absurd none);
-        second = λ e. (let is_first : step ≡ old.steps = omega arith in
-            ap (λ (x : State). record { happened = Turned; state = x }) is ∙ plain_is now new instructed_now ∙ ap instruction_turn (silent.first is_first));
-      }
+  notice_by : (s : State) (n : Notify) → tick_is_due s.firmware ≡ false → (o : Option Entry) → next_entry s.firmware.events.queue s.firmware.hart.tpl ≡ o → notified s.firmware.events.events o ≡ Some n
+      → need (record s { firmware = with_notification (record s.firmware { events = after_next s.firmware.events o }) n }) < need s
+  unfolding notified after_next with_notification has_moment
+  notice_by s n quiet None e h = let bad : ⊥ = cc in absurd bad
+  notice_by s n quiet (Some entry) e h =
+      let found = found_leaves _ entry s.firmware.events.queue (next_found s.firmware.events.queue s.firmware.hart.tpl entry e) in
+      let after = quiet_need (record s { firmware = with_notification (record s.firmware { events = after_next s.firmware.events (Some entry) }) n }) quiet in
+      let before = quiet_need s quiet in
+      omega (arith, found, after, before)
 
-  module _ (one : end ≡ old.steps + 1) where
-    is_first : step ≡ old.steps
-    is_first = let since = silent.since in omega arith
+  notice_falls : (s : State) (n : Notify) → tick_is_due s.firmware ≡ false → notice_of s.firmware ≡ Some n → (b : Bool) → (full_turn s n b).happened ≡ Turned
+      → need (full_turn s n b).state < need s
+  notice_falls s n quiet notice true h = let bad : ⊥ = cc in absurd bad
+  notice_falls s n quiet notice false h = notice_by s n quiet (next_entry s.firmware.events.queue s.firmware.hart.tpl) refl notice
 
-    pub is_old : now ≡ old
-    is_old = silent.first is_first
+  falls_by : (s : State) → Comes s → counts (next_turn s) ≡ false → (turn_of s).happened ≡ Turned → need (turn_of s).state < need s
+  falls_by s (Ticks tick) k h = rw (turn_is s Tick (next_is_tick s tick)) (tick_falls s tick)
+  falls_by s (Notices n quiet notice) k h =
+      let is = turn_is s (Notice n) (next_is_notice s n quiet notice) in
+      rw is (notice_falls s n quiet notice (is_full s.firmware) (rw is at h))
+  falls_by s (Neither quiet none) k h =
+      let e : true ≡ false = sym (counted_counts s) ∙ ap counts (sym (next_is_counted s quiet none)) ∙ k in
+      let bad : ⊥ = cc in absurd bad
 
-  -- where the first turn alone is asked for, a slot that comes isn't the first
-  pub no_slot_first : {X : Type 0} (slot : Option ℕ) → slot ≡ slot_at now.firmware → true ≡ is_some slot → end ≡ old.steps + 1 → slot_at old.firmware ≡ None → X
-  no_slot_first None e some one none = let bad : ⊥ = cc in absurd bad
-  no_slot_first (Some k) e some one none =
-      let same : slot_at now.firmware ≡ slot_at old.firmware = ap (λ (s : State). slot_at s.firmware) (is_old one) in
-      let bad : Some k ≡ None = e ∙ same ∙ none in
-      let none : ⊥ = cc in absurd none
+  need_falls : (s : State) → counts (next_turn s) ≡ false → (turn_of s).happened ≡ Turned → need (turn_of s).state < need s
+  need_falls s k h = falls_by s (comes s) k h
 
-  pub trap_first : (trap : Trap) (new : Parts) (halt : Halt) → (ends.Trap trap ≢ ends.Memory → record { end = ends.Trap trap; firmware = new } ≡ instructed now.firmware) → Halted halt ≡ trapped trap now.firmware.hart.pc → end ≡ old.steps + 1
-      → record { happened = Halted halt; state = record now { firmware = new } } ≡ instruction_turn old
-  trap_first trap new halt h is one =
-      ap (λ (x : Happened). record { happened = x; state = record now { firmware = new } }) is
-      ∙ trap_is now new trap (h (λ (e : ends.Trap trap ≡ ends.Memory). cc)) ∙ ap instruction_turn (is_old one)
+  idle_queue : (s : State) → tick_is_due s.firmware ≡ false → (queue : List Entry) → s.firmware.events.queue ≡ queue → length queue ≡ 0 → notice_of s.firmware ≡ None
+  unfolding notified next_entry greatest
+  idle_queue s quiet [] e h = let none : nat_lt s.firmware.hart.tpl 0 ≡ false = grind (arith, nat_tests) in rw e (rw none refl)
+  idle_queue s quiet (entry ∷ queue) e h = let bad : ⊥ = omega (arith, h) in absurd bad
 
-  pub frames_first : (new : Parts) → (ends.Frames ≢ ends.Memory → record { end = ends.Frames; firmware = new } ≡ instructed now.firmware) → end ≡ old.steps + 1
-      → record { happened = halted causes.Frames now.firmware.hart.pc 0; state = record now { firmware = new } } ≡ instruction_turn old
-  frames_first new h one = frames_is now new (h (λ (e : ends.Frames ≡ ends.Memory). cc)) ∙ ap instruction_turn (is_old one)
+  idle_by : (s : State) → (b : Bool) → tick_is_due s.firmware ≡ b → need s ≤ 0 → counts (next_turn s) ≡ true
+  idle_by s true e h = let n = due_need s e in let bad : ⊥ = omega (arith, n, h) in absurd bad
+  idle_by s false e h =
+      let n = quiet_need s e in
+      let none : length s.firmware.events.queue ≡ 0 = omega (arith, n, h) in
+      ap counts (next_is_counted s e (idle_queue s e s.firmware.events.queue refl none)) ∙ counted_counts s
 
--- So far the machine said nothing, and made at least a turn in each round.
-pub record Underway (old now : State) (round end : ℕ) : Type 0 where
-  pub said : next_said now ≡ next_said old
-  pub since : round ≤ now.steps
-  pub bound : now.bound ≡ old.bound
-  pub last : end ≡ old.bound
-  pub within : now.steps ≤ now.bound
+  idle : (s : State) → need s ≤ 0 → counts (next_turn s) ≡ true
+  idle s h = idle_by s (tick_is_due s.firmware) refl h
 
-module _ (old now mid new : State) (round end : ℕ) (so_far : Underway old now round end) (plain : next_said mid ≡ next_said now) (bound : mid.bound ≡ now.bound) (steps : now.steps ≤ mid.steps) (within : mid.steps ≤ mid.bound) where
-  pub turn_is_silent : record { happened = Turned; state = new } ≡ turn_of mid → Underway old new (round + 1) end
-  turn_is_silent e =
-      let happened : (turn_of mid).happened ≡ Turned = sym (ap (λ (t : Turn). t.happened) e) in
-      let state : (turn_of mid).state ≡ new = sym (ap (λ (t : Turn). t.state) e) in
-      let counts = turn_counts mid (ap goes_on happened) in
-      let new_steps : new.steps ≡ mid.steps + 1 = sym (ap (λ (s : State). s.steps) state) ∙ counts.0 in
-      let new_bound : new.bound ≡ mid.bound = sym (ap (λ (s : State). s.bound) state) ∙ counts.1 in
-      let since = so_far.since in
-      let before : (s : State) → turn_of mid ≡ record { happened = Turned; state = s } → mid.steps < mid.bound = λ s h. counts_below mid within (ap (λ (t : Turn). t.happened) h) in
-      let below = before new (sym e) in
-      record {
-        said = ap next_said (sym state) ∙ sym (silent_goes mid within happened) ∙ plain ∙ so_far.said;
-        since = omega arith;
-        bound = new_bound ∙ bound ∙ so_far.bound;
-        last = so_far.last;
-        within = omega arith;
-      }
+  nothing_comes : (n : ℕ) (s : State) → counts (next_turn s) ≡ true → uncounted n s ≡ record { happened = Turned; state = s }
+  unfolding uncounted
+  nothing_comes zero s k = refl
+  nothing_comes (suc n) s k = rw k refl
 
-  pub turn_is_loud : (h : Happened) → record { happened = h; state = new } ≡ turn_of mid → (h ≡ Turned → ⊥) → record { happened = h; state = new } ≡ next_said old
-  turn_is_loud h e loud =
-      e ∙ sym (loud_is mid within (λ same. loud (ap (λ (t : Turn). t.happened) e ∙ same))) ∙ plain ∙ so_far.said
+  module _ (m n : ℕ) (again : (t : State) → need t ≤ m → need t ≤ n → uncounted m t ≡ uncounted n t) (s : State) (h : need s ≤ suc m) (g : need s ≤ suc n) where
+    behind_turn : counts (next_turn s) ≡ false → (happened : Happened) → (turn_of s).happened ≡ happened
+        → or_next (turn_of s) happened (uncounted m (turn_of s).state) ≡ or_next (turn_of s) happened (uncounted n (turn_of s).state)
+    behind_turn k Turned t = let falls = need_falls s k t in again (turn_of s).state (omega (arith, falls, h)) (omega (arith, falls, g))
+    behind_turn k (Said line) t = refl
+    behind_turn k (Left value steps) t = refl
+    behind_turn k (Reset kind status) t = refl
+    behind_turn k (Halted halt) t = refl
 
--- where the bound is reached, the next turn is the last
-pub last_said : (old now : State) (round end : ℕ) → Underway old now round end → end ≤ round → (t : Turn) → t ≡ turn_of now → t ≡ next_said old
-unfolding first_said
-last_said old now round end so_far past t e =
-    let since = so_far.since in let bound = so_far.bound in let last = so_far.last in
-    let none : steps_left now ≡ zero = omega arith in
-    e ∙ sym (ap (λ n. first_said n now) none) ∙ so_far.said
+    stable_by : (b : Bool) → counts (next_turn s) ≡ b → (if b then record { happened = Turned; state = s } else or_next (turn_of s) (turn_of s).happened (uncounted m (turn_of s).state)) ≡ (if b then record { happened = Turned; state = s } else or_next (turn_of s) (turn_of s).happened (uncounted n (turn_of s).state))
+    stable_by true k = refl
+    stable_by false k = behind_turn k (turn_of s).happened refl
 
-pub after_last : {E : Type 0} (result : Result Happened E) (old now new : State) (round end : ℕ) → Underway old now round end → end ≤ round
-    → IfOk result (λ h. record { happened = h; state = new } ≡ turn_of now) → IfOk result (λ h. record { happened = h; state = new } ≡ next_said old)
-after_last (Ok h) old now new round end so_far past e = last_said old now round end so_far past (record { happened = h; state = new }) e
-after_last (Err x) old now new round end so_far past e = tt
+    stable_step : uncounted (suc m) s ≡ uncounted (suc n) s
+    unfolding uncounted
+    stable_step = stable_by (counts (next_turn s)) refl
 
--- ---- what a turn that isn't silent leaves
+  -- more turns than may come make no difference
+  stable : (m n : ℕ) (s : State) → need s ≤ m → need s ≤ n → uncounted m s ≡ uncounted n s
+  stable zero n s h g = nothing_comes zero s (idle s h) ∙ sym (nothing_comes n s (idle s h))
+  stable (suc m) zero s h g = nothing_comes (suc m) s (idle s g) ∙ sym (nothing_comes zero s (idle s g))
+  stable (suc m) (suc n) s h g = stable_step m n (stable m n) s h g
 
-abbrev pub Leaves : State → Turn → Type 0
-Leaves s t = (t.happened ≢ Turned) × (goes_on t.happened ≡ true → steps_left t.state < steps_left s)
+  -- ---- the job
 
-module _ (n : ℕ) (s : State) (left : suc n ≡ steps_left s) (rest : (t : State) → n ≡ steps_left t → t.steps ≤ t.bound → Leaves t (first_said n t)) where
-  fewer_left : (turn_of s).state.steps ≡ s.steps + 1 → (turn_of s).state.bound ≡ s.bound → steps_left (turn_of s).state < steps_left s
-  fewer_left k b = omega arith
+  counted_settled : (s : State) → counts (next_turn s) ≡ true → settled s ≡ record { happened = Turned; state = s }
+  unfolding settled
+  counted_settled s k = nothing_comes (most_uncounted s) s k
 
-  leaves_by : (h : Happened) → (turn_of s).happened ≡ h → Leaves s (first_said (suc n) s)
-  unfolding first_said
-  leaves_by Turned e =
-      let counts = turn_counts s (ap goes_on e) in
-      let later = rest (turn_of s).state (next_left n s left (goes n) counts.0 counts.1) (next_within n s left (goes n) counts.0 counts.1) in
-      let fewer = fewer_left counts.0 counts.1 in
-      rw e (later.0, λ more. (let l = later.1 more in omega arith))
-  leaves_by (Said line) e =
-      let counts = turn_counts s (ap goes_on e) in
-      rw e ((λ (same : Said line ≡ Turned). cc), λ more. fewer_left counts.0 counts.1)
-  leaves_by (Left value steps) e = rw e ((λ (same : Left value steps ≡ Turned). cc), λ (more : false ≡ true). (let none : ⊥ = cc in absurd none))
-  leaves_by (Halted halt) e = rw e ((λ (same : Halted halt ≡ Turned). cc), λ (more : false ≡ true). (let none : ⊥ = cc in absurd none))
+  free_settled : (s : State) → counts (next_turn s) ≡ false → (turn_of s).happened ≡ Turned → settled s ≡ settled (turn_of s).state
+  unfolding settled uncounted
+  free_settled s k h =
+      let falls = need_falls s k h in
+      let most = enough s in
+      rw k (rw h (stable _ (most_uncounted (turn_of s).state) (turn_of s).state (omega (arith, falls, most)) (enough (turn_of s).state)))
 
-leaves : (n : ℕ) (s : State) → n ≡ steps_left s → s.steps ≤ s.bound → Leaves s (first_said n s)
-unfolding first_said
-leaves zero s e within =
-    let same : s.steps ≡ s.bound = omega arith in
-    let last = last_turn s same in
-    rw last ((λ (bad : halted causes.Bound s.firmware.hart.pc 0 ≡ Turned). cc), λ more. (let none : ⊥ = cc in absurd none))
-leaves (suc n) s e within = leaves_by n s e (leaves n) (turn_of s).happened refl
+  halt_settled : (s : State) (halt : Halt) → counts (next_turn s) ≡ false → (turn_of s).happened ≡ Halted halt → settled s ≡ turn_of s
+  unfolding settled uncounted
+  halt_settled s halt k h = rw k (rw h refl)
 
-says_one : (s new : State) (h : Happened) → s.steps ≤ s.bound → record { happened = h; state = new } ≡ next_said s → Says h s new
-says_one s new h within e =
-    let behind = leaves (steps_left s) s refl within in
-    let back = sym e in
-    record {
-      turn = e;
-      loud = λ same. behind.0 (ap (λ (t : Turn). t.happened) back ∙ same);
-      rest = jobs_are_said s within ∙ ap (λ (t : Turn). joined t.happened t.state (job_of t.state)) back;
-      fewer = λ more. subst (λ (t : Turn). steps_left t.state < steps_left s) back (behind.1 (ap (λ (t : Turn). goes_on t.happened) back ∙ more));
-    }
+  same_turns : (n : ℕ) (s t : State) → settled s ≡ settled t → turns_of n s ≡ turns_of n t
+  unfolding turns_of
+  same_turns zero s t e = rw e refl
+  same_turns (suc n) s t e = rw e refl
 
-pub says : {E : Type 0} (result : Result Happened E) (s new : State) → s.steps ≤ s.bound → IfOk result (λ h. record { happened = h; state = new } ≡ next_said s) → IfOk result (λ h. Says h s new)
-says (Ok h) s new within e = says_one s new h within e
-says (Err x) s new within e = tt
+  halted_turns : (n : ℕ) (s : State) (t : Turn) (halt : Halt) (rest : Job) → settled s ≡ t → t.happened ≡ Halted halt → turns_of n s ≡ joined t.happened t.state rest
+  unfolding turns_of
+  halted_turns zero s t halt rest e h = rw e (rw h refl)
+  halted_turns (suc n) s t halt rest e h = rw e (rw h refl)
+
+  module _ (s : State) (within : s.steps ≤ s.bound) where
+    abbrev Goal : Type 0
+    Goal = job_of s ≡ joined (turn_of s).happened (turn_of s).state (job_of (turn_of s).state)
+
+    free_by : counts (next_turn s) ≡ false → ((turn_of s).happened ≡ Turned) ⊎ ((halt : Halt) × ((turn_of s).happened ≡ Halted halt)) → Goal
+    free_by k (inl h) =
+        let keeps = turn_keeps s k in
+        let steps = keeps.0 in let bound = keeps.1 in
+        let left : steps_left s ≡ steps_left (turn_of s).state = omega (arith, steps, bound) in
+        rw h (ap (λ n. turns_of n s) left ∙ same_turns (steps_left (turn_of s).state) s (turn_of s).state (free_settled s k h))
+    free_by k (inr h) = halted_turns (steps_left s) s (turn_of s) h.0 (job_of (turn_of s).state) (halt_settled s h.0 k h.1) h.1
+
+    next_left : (n : ℕ) → suc n ≡ steps_left s → (turn_of s).state.steps ≡ s.steps + 1 → (turn_of s).state.bound ≡ s.bound → n ≡ steps_left (turn_of s).state
+    next_left n left k b = omega (arith, left, k, b)
+
+    one_more : (n : ℕ) → suc n ≡ steps_left s → counts (next_turn s) ≡ true → (h : Happened) → (turn_of s).happened ≡ h
+        → joined (turn_of s).happened (turn_of s).state (turns_of n (turn_of s).state) ≡ joined (turn_of s).happened (turn_of s).state (job_of (turn_of s).state)
+    one_more n left k Turned e =
+        let c = turn_counts s k (ap goes_on e) in
+        rw e (ap (λ m. turns_of m (turn_of s).state) (next_left n left c.0 c.1))
+    one_more n left k (Said line) e =
+        let c = turn_counts s k (ap goes_on e) in
+        rw e (ap (λ m. said_before line (turns_of m (turn_of s).state)) (next_left n left c.0 c.1))
+    one_more n left k (Left value steps) e = rw e refl
+    one_more n left k (Reset kind status) e = rw e refl
+    one_more n left k (Halted halt) e = rw e refl
+
+    counted_by : (n : ℕ) → n ≡ steps_left s → counts (next_turn s) ≡ true → turns_of n s ≡ joined (turn_of s).happened (turn_of s).state (job_of (turn_of s).state)
+    unfolding turns_of
+    counted_by zero left k =
+        let same : s.steps ≡ s.bound = omega (arith, left, within) in
+        let last = last_turn s k same in
+        rw (counted_settled s k) (rw last refl)
+    counted_by (suc n) left k = rw (counted_settled s k) (one_more n left k (turn_of s).happened refl)
+
+    job_by : (b : Bool) → counts (next_turn s) ≡ b → Goal
+    job_by true k = counted_by (steps_left s) refl k
+    job_by false k = free_by k (turn_happens s k)
+
+  pub jobs_are_turns : JobsAreTurns
+  jobs_are_turns s within = job_by s within (counts (next_turn s)) refl

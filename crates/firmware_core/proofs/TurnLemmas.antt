@@ -1,5 +1,6 @@
 -- Turns that leave the parts, and what a turn counts.
-use Rattle.std.proofs.Common.{◌≡◌, ◌≢◌, ℕ, ◌+◌, ◌≤◌, ◌<◌, ◌-◌, ◌==◌, Bool, true, false, List, Option, Some, None, refl, sym, ap, ◌∙◌, arith}
+use Rattle.std.proofs.Common.{◌≡◌, ◌≢◌, ◌⊎◌, inl, inr, ℕ, zero, suc, ◌+◌, ◌≤◌, ◌<◌, ◌-◌, ◌==◌, Bool, true, false, List, Option, Some, None, refl, sym, ap, ◌∙◌, arith}
+use Rattle.std.specs.Prelude.{nat_le, Result, Ok, Err, IfOk, if◌then◌else◌}
 use Rattle.std.specs.Option.{is_some}
 use Rattle.std.proofs.lemmas.Bool.Decides.{nat_tests}
 use Rattle.rv_step.specs.declared.ends.StepEnd.{StepEnd}
@@ -17,14 +18,22 @@ use Rattle.address_view.specs.Stored.{lacks_seen}
 use Rattle.virtual_map.specs.States.{Runtime}
 use Rattle.virtual_map.specs.Instructions.{Carried, carried, comes_to, seen_by}
 use Rattle.firmware_core.specs.declared.happened.Happened.{Happened}
-use Rattle.firmware_core.specs.declared.happened.Happened.TheVariants.{Turned}
+use Rattle.firmware_core.specs.declared.happened.Happened.TheVariants.{Turned, Halted}
+use Rattle.firmware_core.specs.declared.happened.Halt.{Halt}
+use Rattle.event_queue.specs.declared.event.Entry.{Entry}
+use Rattle.event_queue.specs.declared.event.Event.{Event}
+use Rattle.event_queue.specs.declared.event.Notify.{Notify}
+use Rattle.event_queue.specs.Queue.{notified}
+use Rattle.event_queue.specs.Timers.{has_moment, moment_ahead}
+use Rattle.firmware_core.specs.Views.{IsNotice, NoticeTurned}
+use Rattle.firmware_core.specs.Frames.{tick_is_due, with_tick, notice_of, without_notice, is_full, with_notification, Quiet}
 use Rattle.firmware_core.specs.declared.conclusion.Conclusion.{Conclusion}
-use Rattle.firmware_core.specs.declared.conclusion.Conclusion.TheVariants.{Answers, Prints, Leaves, Halts}
+use Rattle.firmware_core.specs.declared.conclusion.Conclusion.TheVariants.{Answers, Prints, Continues, Leaves, Resets, Halts}
 use Rattle.firmware_core.specs.Parts.{Parts}
 use Rattle.firmware_core.specs.Services as services
-use Rattle.firmware_core.specs.Turns.{State, Turn, Next, Bound, Slot, Instruction, with_carried, Instructed, instructed, slot_at, counted, carried_out, service_turn, instruction_turn, next_turn, by_next, turn_of, halted, trapped}
+use Rattle.firmware_core.specs.Turns.{State, Turn, Next, Tick, Notice, Bound, Slot, Instruction, with_firmware, with_carried, Instructed, instructed, by_slot, slot_at, counted, carried_out, service_turn, instruction_turn, counted_next, next_turn, by_next, turn_of, halted, trapped}
 use Rattle.firmware_core.specs.Turns as turns
-use Rattle.firmware_core.specs.Jobs.{goes_on}
+use Rattle.firmware_core.specs.Jobs.{counts, goes_on}
 
 -- ---- an instruction that isn't carried out leaves the parts
 
@@ -53,17 +62,116 @@ trap_ends (traps.Fault at access.Load) pc h = cc
 trap_ends (traps.Fault at access.Store) pc h = cc
 trap_ends (traps.Fault at access.Fetch) pc h = cc
 
--- ---- a turn that doesn't end the job counts a step
+-- ---- which turn comes
+
+pub next_is_tick : (s : State) → tick_is_due s.firmware ≡ true → next_turn s ≡ Tick
+unfolding next_turn
+next_is_tick s h = rw h refl
+
+pub next_is_notice : (s : State) (n : Notify) → tick_is_due s.firmware ≡ false → notice_of s.firmware ≡ Some n → next_turn s ≡ Notice n
+unfolding next_turn
+next_is_notice s n h e = rw (h, e) refl
+
+pub next_is_counted : (s : State) → tick_is_due s.firmware ≡ false → notice_of s.firmware ≡ None → next_turn s ≡ counted_next s
+unfolding next_turn
+next_is_counted s h e = rw (h, e) refl
+
+-- a tick, a notification, or neither
+pub data Comes (s : State) : Type 0 where
+  Ticks : (tick : tick_is_due s.firmware ≡ true) → Comes s
+  Notices : (notify : Notify) (quiet : tick_is_due s.firmware ≡ false) (notice : notice_of s.firmware ≡ Some notify) → Comes s
+  Neither : (quiet : tick_is_due s.firmware ≡ false) (none : notice_of s.firmware ≡ None) → Comes s
+
+pub comes : (s : State) → Comes s
+comes s = by_tick (tick_is_due s.firmware) refl
+  where
+    by_notice_of : tick_is_due s.firmware ≡ false → (o : Option Notify) → notice_of s.firmware ≡ o → Comes s
+    by_notice_of quiet None e = Neither quiet e
+    by_notice_of quiet (Some n) e = Notices n quiet e
+
+    by_tick : (b : Bool) → tick_is_due s.firmware ≡ b → Comes s
+    by_tick true e = Ticks e
+    by_tick false e = by_notice_of e (notice_of s.firmware) refl
+
+slots_count : (o : Option ℕ) → counts (by_slot o) ≡ true
+slots_count None = refl
+slots_count (Some slot) = refl
+
+pub counted_counts : (s : State) → counts (counted_next s) ≡ true
+counted_counts s = by (s.steps == s.bound)
+  where
+    by : (b : Bool) → counts (if b then Bound else by_slot (slot_at s.firmware)) ≡ true
+    by true = refl
+    by false = slots_count (slot_at s.firmware)
+
+counted_by : (s : State) → Comes s → counts (next_turn s) ≡ true → next_turn s ≡ counted_next s
+counted_by s (Ticks tick) h = let e : counts Tick ≡ true = ap counts (sym (next_is_tick s tick)) ∙ h in let bad : ⊥ = cc in absurd bad
+counted_by s (Notices n quiet notice) h = let e : counts (Notice n) ≡ true = ap counts (sym (next_is_notice s n quiet notice)) ∙ h in let bad : ⊥ = cc in absurd bad
+counted_by s (Neither quiet none) h = next_is_counted s quiet none
+
+-- a turn that counts is none of the others
+pub counted_is : (s : State) → counts (next_turn s) ≡ true → next_turn s ≡ counted_next s
+counted_is s h = counted_by s (comes s) h
+
+pub turn_is : (s : State) (n : Next) → next_turn s ≡ n → turn_of s ≡ by_next n s
+unfolding turn_of
+turn_is s n e = rw e refl
+
+pub notified_some : (events : List Event) (o : Option Entry) → is_some (notified events o) ≡ is_some o
+unfolding notified
+notified_some events None = refl
+notified_some events (Some entry) = refl
+
+-- ---- the turn that is made
+
+pub tick_now : (s : State) (f : Parts) → true ≡ tick_is_due s.firmware → f ≡ with_tick s.firmware → record { happened = Turned; state = with_firmware s f } ≡ turn_of s
+tick_now s f due is = ap (λ (g : Parts). record { happened = Turned; state = with_firmware s g }) is ∙ sym (turn_is s Tick (next_is_tick s (sym due)))
+
+notice_by : (s new : State) (happened : Happened) → tick_is_due s.firmware ≡ false → (o : Option Notify) → notice_of s.firmware ≡ o → IsNotice o happened s new → record { happened = happened; state = new } ≡ turn_of s
+notice_by s new happened quiet None e h = absurd h
+notice_by s new happened quiet (Some n) e h = h ∙ sym (turn_is s (Notice n) (next_is_notice s n quiet e))
+
+pub notice_now : (s new : State) (happened : Happened) → false ≡ tick_is_due s.firmware → NoticeTurned (Some happened) s new → record { happened = happened; state = new } ≡ turn_of s
+notice_now s new happened quiet h = notice_by s new happened (sym quiet) (notice_of s.firmware) refl h
+
+pub quiet_one : (f : Parts) → false ≡ tick_is_due f → notice_of f ≡ None → Quiet f 1
+unfolding has_moment
+quiet_one f quiet none =
+    let later : nat_le (moment_ahead f.events) f.time ≡ false = sym quiet in
+    let above : f.time < moment_ahead f.events = grind (arith, nat_tests) in
+    record { notice = none; tick = omega (arith, above) }
+
+pub quiet_now : (s mid : State) → false ≡ tick_is_due s.firmware → NoticeTurned None s mid → Quiet mid.firmware 1
+quiet_now s mid quiet h = let same = h.1 in rw same (quiet_one s.firmware quiet h.0)
+
+counted_now_by : (s mid : State) (t : Turn) → false ≡ tick_is_due s.firmware → NoticeTurned None s mid → t ≡ by_next (counted_next mid) mid → t ≡ turn_of s
+counted_now_by s mid t quiet h e = e ∙ ap (λ (x : State). by_next (counted_next x) x) h.1 ∙ sym (turn_is s (counted_next s) (next_is_counted s (sym quiet) h.0))
+
+pub counted_now : {E : Type 0} (result : Result Happened E) (s mid new : State) → false ≡ tick_is_due s.firmware → NoticeTurned None s mid
+    → IfOk result (λ h. record { happened = h; state = new } ≡ by_next (counted_next mid) mid) → IfOk result (λ h. record { happened = h; state = new } ≡ turn_of s)
+counted_now (Ok happened) s mid new quiet h e = counted_now_by s mid (record { happened = happened; state = new }) quiet h e
+counted_now (Err x) s mid new quiet h e = tt
+
+-- ---- what a turn counts
+
+-- the start of a notification, where 64 frames stand or not
+abbrev pub full_turn : State → Notify → Bool → Turn
+full_turn s n b = if b then record { happened = halted causes.Depth s.firmware.hart.pc 0; state = s } else record { happened = Turned; state = with_firmware s (with_notification (without_notice s.firmware) n) }
 
 module _ (s : State) where
   abbrev pub Counts : Turn → Type 0
   Counts t = (t.state.steps ≡ s.steps + 1) × (t.state.bound ≡ s.bound)
 
-  service_counts : (pc : ℕ) (c : Conclusion) (f : Parts) → goes_on (turns.comes_to pc s c f).happened ≡ true → Counts (turns.comes_to pc s c f)
-  service_counts pc (Answers a0) f h = (refl, refl)
-  service_counts pc (Prints text a0) f h = (refl, refl)
-  service_counts pc (Leaves value) f h = let bad : ⊥ = cc in absurd bad
-  service_counts pc (Halts cause) f h = let bad : ⊥ = cc in absurd bad
+  abbrev pub Keeps : Turn → Type 0
+  Keeps t = (t.state.steps ≡ s.steps) × (t.state.bound ≡ s.bound)
+
+  service_counts : (slot pc : ℕ) (c : Conclusion) (f : Parts) → goes_on (turns.comes_to slot pc s c f).happened ≡ true → Counts (turns.comes_to slot pc s c f)
+  service_counts slot pc (Answers a0) f h = (refl, refl)
+  service_counts slot pc (Prints text a0) f h = (refl, refl)
+  service_counts slot pc Continues f h = (refl, refl)
+  service_counts slot pc (Leaves value) f h = let bad : ⊥ = cc in absurd bad
+  service_counts slot pc (Resets kind status) f h = let bad : ⊥ = cc in absurd bad
+  service_counts slot pc (Halts cause) f h = let bad : ⊥ = cc in absurd bad
 
   instruction_counts : (pc : ℕ) (end : StepEnd) (f : Parts) → goes_on (carried_out pc s end f).happened ≡ true → Counts (carried_out pc s end f)
   instruction_counts pc ends.Next f h = (refl, refl)
@@ -71,20 +179,71 @@ module _ (s : State) where
   instruction_counts pc ends.Frames f h = let bad : ⊥ = cc in absurd bad
   instruction_counts pc ends.Memory f h = let bad : ⊥ = cc in absurd bad
 
-  next_counts : (n : Next) → goes_on (by_next n s).happened ≡ true → Counts (by_next n s)
+  step_counts : (n : Next) → counts n ≡ true → goes_on (by_next n s).happened ≡ true → Counts (by_next n s)
   unfolding service_turn instruction_turn
-  next_counts Bound h = let bad : ⊥ = cc in absurd bad
-  next_counts (Slot slot) h = service_counts _ _ _ h
-  next_counts Instruction h = instruction_counts _ _ _ h
+  step_counts Tick k h = let bad : ⊥ = cc in absurd bad
+  step_counts (Notice notify) k h = let bad : ⊥ = cc in absurd bad
+  step_counts Bound k h = let bad : ⊥ = cc in absurd bad
+  step_counts (Slot slot) k h = service_counts _ _ _ _ h
+  step_counts Instruction k h = instruction_counts _ _ _ h
 
-  pub turn_counts : goes_on (turn_of s).happened ≡ true → Counts (turn_of s)
+  -- a turn that counts, and that the job goes on behind, counts a step
+  pub turn_counts : counts (next_turn s) ≡ true → goes_on (turn_of s).happened ≡ true → Counts (turn_of s)
   unfolding turn_of
-  turn_counts h = next_counts (next_turn s) h
+  turn_counts k h = step_counts (next_turn s) k h
+
+  notice_keeps : (n : Notify) (b : Bool) → Keeps (full_turn s n b)
+  notice_keeps n true = (refl, refl)
+  notice_keeps n false = (refl, refl)
+
+  free_keeps : (n : Next) → counts n ≡ false → Keeps (by_next n s)
+  free_keeps Tick k = (refl, refl)
+  free_keeps (Notice notify) k = notice_keeps notify (is_full s.firmware)
+  free_keeps Bound k = let bad : ⊥ = cc in absurd bad
+  free_keeps (Slot slot) k = let bad : ⊥ = cc in absurd bad
+  free_keeps Instruction k = let bad : ⊥ = cc in absurd bad
+
+  -- a tick and the start of a notification count none
+  pub turn_keeps : counts (next_turn s) ≡ false → Keeps (turn_of s)
+  unfolding turn_of
+  turn_keeps k = free_keeps (next_turn s) k
+
+  abbrev IsSilentOrHalt : Happened → Type 0
+  IsSilentOrHalt happened = (happened ≡ Turned) ⊎ ((halt : Halt) × (happened ≡ Halted halt))
+
+  notice_happens : (n : Notify) (b : Bool) → IsSilentOrHalt (full_turn s n b).happened
+  notice_happens n true = inr (_, refl)
+  notice_happens n false = inl refl
+
+  free_happens : (n : Next) → counts n ≡ false → IsSilentOrHalt (by_next n s).happened
+  free_happens Tick k = inl refl
+  free_happens (Notice notify) k = notice_happens notify (is_full s.firmware)
+  free_happens Bound k = let bad : ⊥ = cc in absurd bad
+  free_happens (Slot slot) k = let bad : ⊥ = cc in absurd bad
+  free_happens Instruction k = let bad : ⊥ = cc in absurd bad
+
+  -- such a turn says nothing, or the run halts
+  pub turn_happens : counts (next_turn s) ≡ false → IsSilentOrHalt (turn_of s).happened
+  unfolding turn_of
+  turn_happens k = free_happens (next_turn s) k
+
+  bound_is : s.steps ≡ s.bound → counted_next s ≡ Bound
+  bound_is h = let is : (s.steps == s.bound) ≡ true = grind (arith, nat_tests) in rw is refl
 
   -- where no step is left, the bound ends the job
-  pub last_turn : s.steps ≡ s.bound → turn_of s ≡ record { happened = halted causes.Bound s.firmware.hart.pc 0; state = s }
-  unfolding turn_of next_turn
-  last_turn h = let is : (s.steps == s.bound) ≡ true = grind (arith, nat_tests) in rw is refl
+  pub last_turn : counts (next_turn s) ≡ true → s.steps ≡ s.bound → turn_of s ≡ record { happened = halted causes.Bound s.firmware.hart.pc 0; state = s }
+  last_turn k h = turn_is s Bound (counted_is s k ∙ bound_is h)
+
+  below_by : s.steps ≤ s.bound → counts (next_turn s) ≡ true → goes_on (turn_of s).happened ≡ true → (n : ℕ) → n ≡ s.bound - s.steps → s.steps < s.bound
+  below_by within k h zero e =
+      let same : s.steps ≡ s.bound = omega arith in
+      let bad : goes_on (halted causes.Bound s.firmware.hart.pc 0) ≡ true = ap (λ (t : Turn). goes_on t.happened) (sym (last_turn k same)) ∙ h in
+      let none : ⊥ = cc in absurd none
+  below_by within k h (suc n) e = omega arith
+
+  -- a turn that counts a step comes before the bound
+  pub counts_below : s.steps ≤ s.bound → counts (next_turn s) ≡ true → goes_on (turn_of s).happened ≡ true → s.steps < s.bound
+  counts_below within k h = below_by within k h (s.bound - s.steps) refl
 
 -- ---- an instruction in the turn
 
@@ -110,13 +269,15 @@ pub frames_is : (s : State) (new : Parts) → record { end = ends.Frames; firmwa
 unfolding instruction_turn
 frames_is s new e = let back = sym e in rw back refl
 
--- where no slot and no bound comes, an instruction that is carried out is the turn
-pub plain_turn : (s : State) (new : Parts) → s.steps < s.bound → slot_at s.firmware ≡ None → record { end = ends.Next; firmware = new } ≡ instructed s.firmware → turn_of s ≡ record { happened = Turned; state = counted s new }
-unfolding turn_of next_turn instruction_turn
-plain_turn s new below none e =
+-- where no tick, no notification, no slot and no bound comes, an instruction that is carried out is the turn
+pub plain_turn : (s : State) (new : Parts) → tick_is_due s.firmware ≡ false → notice_of s.firmware ≡ None → s.steps < s.bound → slot_at s.firmware ≡ None → record { end = ends.Next; firmware = new } ≡ instructed s.firmware
+    → turn_of s ≡ record { happened = Turned; state = counted s new }
+unfolding instruction_turn
+plain_turn s new quiet nothing below none e =
     let is : (s.steps == s.bound) ≡ false = grind (arith, nat_tests) in
+    let comes_now : counted_next s ≡ Instruction = rw (is, none) refl in
     let back = sym e in
-    rw is (rw none (rw back refl))
+    turn_is s Instruction (next_is_counted s quiet nothing ∙ comes_now) ∙ rw back refl
 
 pub trap_leaves : (f new : Parts) (end : StepEnd) (trap : Trap) → end ≡ ends.Trap trap → (end ≢ ends.Memory → record { end = end; firmware = new } ≡ instructed f) → new ≡ f
 trap_leaves f new end trap is h = not_carried f new end h (λ e. let same : ends.Trap trap ≡ ends.Memory = sym is ∙ e in cc) (λ e. let same : ends.Trap trap ≡ ends.Next = sym is ∙ e in cc)

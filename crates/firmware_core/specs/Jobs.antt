@@ -1,36 +1,32 @@
 -- A job: an image that is started, and its turns to the end.
-use Rattle.std.specs.Prelude.{ℕ, zero, suc, ◌≡◌, ◌≢◌, ◌+◌, ◌-◌, ◌*◌, ◌<◌, List, [], ◌∷◌, Bool, true, false, Option, Some, None, replicate, slice_set, if◌then◌else◌}
-use Rattle.page_alloc.specs.declared.layout.Layout.{Layout}
+use Rattle.std.specs.Prelude.{ℕ, zero, suc, ◌≡◌, ◌≢◌, ◌+◌, ◌-◌, ◌*◌, ◌<◌, ◌≤◌, List, [], ◌∷◌, length, Bool, true, false, Option, Some, None, if◌then◌else◌}
 use Rattle.record_text.specs.declared.line.Line.{Line}
 use Rattle.record_text.specs.declared.cause.Cause.TheVariants as causes
+use Rattle.event_queue.specs.Timers.{after_tick}
 use Rattle.image_services.specs.Images.{Loaded, find_image, with_started}
+use Rattle.firmware_core.specs.declared.frame.Phase.TheVariants.{Called}
+use Rattle.firmware_core.specs.declared.frame.Purpose.TheVariants as purposes
 use Rattle.firmware_core.specs.declared.happened.Happened.{Happened}
-use Rattle.firmware_core.specs.declared.happened.Happened.TheVariants.{Turned, Said, Left, Halted}
+use Rattle.firmware_core.specs.declared.happened.Happened.TheVariants.{Turned, Said, Left, Reset, Halted}
 use Rattle.firmware_core.specs.declared.happened.JobEnd.{JobEnd}
 use Rattle.firmware_core.specs.declared.happened.JobEnd.TheVariants as ends
 use Rattle.firmware_core.specs.declared.job.Job as declared
 use Rattle.firmware_core.specs.declared.job.Job.TheVariants.{Start}
-use Rattle.firmware_core.specs.Turns.{State, Turn, turn_of}
+use Rattle.firmware_core.specs.Parts.{Parts}
+use Rattle.firmware_core.specs.Frames.{pushed, registers_for}
+use Rattle.firmware_core.specs.Turns.{State, Turn, Next, Tick, Notice, Bound, Slot, Instruction, next_turn, turn_of}
 
 -- ---- the beginning
 
 -- ra is slot 67, by which the firmware is returned to, sp the top of the boot stack, a0 the image's handle and a1 the
 -- system table; every other register is 0. (UEFI 2.10, 2.3.7.1: handoff state)
-abbrev pub registers_at_start : Layout → ℕ → List ℕ
-registers_at_start layout handle =
-    slice_set (slice_set (slice_set (slice_set (replicate 32 0) 1 (layout.slots + 16 * 67)) 2 layout.boot) 10 handle) 11 layout.system
+abbrev pub with_image : Parts → ℕ → ℕ → Parts
+with_image f handle entry =
+    pushed f (purposes.Job handle) (record { x = registers_for f.runtime.layout f.runtime.layout.boot handle f.runtime.layout.system; pc = entry; phase = Called; tpl = f.hart.tpl })
 
 -- the machine with the image of a handle that begins at its entry point, for at most so many steps
 unfoldable pub started : State → ℕ → ℕ → ℕ → State
-started s handle entry bound = record {
-  firmware = record s.firmware {
-    hart = record { x = registers_at_start s.firmware.runtime.layout handle; pc = entry };
-    running = Some handle;
-    images = with_started s.firmware.images handle;
-  };
-  steps = 0;
-  bound = bound;
-}
+started s handle entry bound = record { firmware = record (with_image s.firmware handle entry) { images = with_started s.firmware.images handle }; steps = 0; bound = bound; trace = s.trace }
 
 -- whether a job begins, and the machine behind that
 pub record Begun : Type 0 where
@@ -49,6 +45,32 @@ start_at s handle bound (Some entry) = record { begins = true; state = started s
 unfoldable pub begun : State → declared.Job → Begun
 begun s (Start handle bound) = start_at s handle bound (fresh_entry (find_image s.firmware.images handle))
 
+-- ---- turns that count no step
+
+-- a tick and the start of a notification count none
+abbrev pub counts : Next → Bool
+counts Tick = false
+counts (Notice notify) = false
+counts Bound = true
+counts (Slot slot) = true
+counts Instruction = true
+
+abbrev pub or_next : Turn → Happened → Turn → Turn
+or_next turn Turned rest = rest
+or_next turn happened rest = turn
+
+-- what happens in the turns before the next one that counts a step, of which there are at most so many
+unfoldable pub uncounted : ℕ → State → Turn
+uncounted zero s = record { happened = Turned; state = s }
+uncounted (suc more) s = if counts (next_turn s) then record { happened = Turned; state = s } else or_next (turn_of s) (turn_of s).happened (uncounted more (turn_of s).state)
+
+-- There is one tick at most, and each notification that starts leaves the queue.
+abbrev pub most_uncounted : State → ℕ
+most_uncounted s = suc (length (after_tick s.firmware.events s.firmware.time).queue)
+
+unfoldable pub settled : State → Turn
+settled s = uncounted (most_uncounted s) s
+
 -- ---- the turns
 
 -- what a job says, how it ends, and the machine behind it
@@ -65,53 +87,54 @@ abbrev pub joined : Happened → State → Job → Job
 joined Turned state rest = rest
 joined (Said line) state rest = said_before line rest
 joined (Left value steps) state rest = record { lines = []; end = ends.Left value steps; state = state }
+joined (Reset kind status) state rest = record { lines = []; end = ends.Reset kind status; state = state }
 joined (Halted halt) state rest = record { lines = []; end = ends.Halted halt; state = state }
 
 -- the end of a job whose bound is reached
 abbrev pub at_bound : State → Job
 at_bound s = record { lines = []; end = ends.Halted (record { cause = causes.Bound; pc = s.firmware.hart.pc; at = 0 }); state = s }
 
--- a job of at most so many counted turns
+-- a job of at most so many counted turns, each behind those that count no step
 unfoldable pub turns_of : ℕ → State → Job
-turns_of zero s = at_bound s
-turns_of (suc more) s = joined (turn_of s).happened (turn_of s).state (turns_of more (turn_of s).state)
+turns_of zero s = joined (settled s).happened (settled s).state (at_bound (settled s).state)
+turns_of (suc more) s = joined (settled s).happened (settled s).state (joined (turn_of (settled s).state).happened (turn_of (settled s).state).state (turns_of more (turn_of (settled s).state).state))
 
 -- the steps that are left to the job
 abbrev pub steps_left : State → ℕ
 steps_left s = s.bound - s.steps
 
--- The job from here on. Each turn that doesn't end it counts a step, and where none is left the bound ends it.
+-- The job from here on. Where no step is left, the bound ends it.
 abbrev pub job_of : State → Job
 job_of s = turns_of (steps_left s) s
 
+-- A job is its next turn, and the rest of it.
+abbrev pub JobsAreTurns : Type 0
+JobsAreTurns = (s : State) → s.steps ≤ s.bound → job_of s ≡ joined (turn_of s).happened (turn_of s).state (job_of (turn_of s).state)
+
 -- ---- turns that say nothing
 
-abbrev pub or_next : Turn → Happened → Turn → Turn
-or_next turn Turned rest = rest
-or_next turn (Said line) rest = turn
-or_next turn (Left value steps) rest = turn
-or_next turn (Halted halt) rest = turn
+-- So many turns that say nothing lead from one state to another.
+abbrev pub Silently : ℕ → State → State → Type 0
+Silently zero old new = new ≡ old
+Silently (suc more) old new = ((turn_of old).happened ≡ Turned) × Silently more (turn_of old).state new
 
--- the first turn that isn't silent among so many and one
-unfoldable pub first_said : ℕ → State → Turn
-first_said zero s = turn_of s
-first_said (suc more) s = or_next (turn_of s) (turn_of s).happened (first_said more (turn_of s).state)
+abbrev pub SilentlyTo : State → State → Type 0
+SilentlyTo old new = (turns : ℕ) × Silently turns old new
 
--- the next turn that says a line or ends the job
-abbrev pub next_said : State → Turn
-next_said s = first_said (steps_left s) s
-
--- whether a job goes on behind that
+-- whether a job goes on behind what happened
 abbrev pub goes_on : Happened → Bool
 goes_on Turned = true
 goes_on (Said line) = true
 goes_on (Left value steps) = false
+goes_on (Reset kind status) = false
 goes_on (Halted halt) = false
 
--- A turn that says a line or ends the job leads from old to new: what the job says is that and the rest, of which fewer steps
--- are left.
+-- The next turn that says a line or ends the job leads from old to new: what the job says is that and the rest, of which fewer
+-- steps are left.
 pub record Says (happened : Happened) (old new : State) : Type 0 where
-  pub turn : record { happened = happened; state = new } ≡ next_said old
+  pub before : State
+  pub silent : SilentlyTo old before
+  pub turn : turn_of before ≡ record { happened = happened; state = new }
   pub loud : happened ≢ Turned
   pub rest : job_of old ≡ joined happened new (job_of new)
   pub fewer : goes_on happened ≡ true → steps_left new < steps_left old

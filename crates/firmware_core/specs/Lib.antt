@@ -1,6 +1,10 @@
+pub mod Harts
 pub mod Parts
 pub mod Opening
+pub mod Frames
 pub mod Services
+pub mod EventSlots
+pub mod Slots
 pub mod Turns
 pub mod Jobs
 pub mod Loads

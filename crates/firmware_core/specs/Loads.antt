@@ -1,6 +1,7 @@
 -- The load of an image into a machine.
 use Rattle.std.specs.Prelude.{ℕ, List, Option, Some, None, Result, Ok, Err}
 use Rattle.uh_base.specs.Statuses.{success}
+use Rattle.event_queue.specs.Queue.{signal_each}
 use Rattle.image_services.specs.declared.refusal.LoadRefusal.{LoadRefusal}
 use Rattle.image_services.specs.Images.{Loaded, find_image}
 use Rattle.image_services.specs.Stores.{Store}
@@ -22,12 +23,15 @@ abbrev pub answer_for : State → ℕ → Option Loaded → LoadDone
 answer_for s handle None = record { status = success; handle = 0; base = 0; pages = 0; state = s }
 answer_for s handle (Some image) = record { status = success; handle = handle; base = image.base; pages = image.pages; state = s }
 
-abbrev pub with_loaded : State → Store → State
-with_loaded s store = record s { firmware = with_store s.firmware store }
+abbrev pub signalled : Parts → List ℕ → Parts
+signalled f events = record f { events = signal_each events f.events }
 
--- No event is registered for the protocol of the image's handle, since no service registers one yet.
+abbrev pub with_loaded : State → Store → List ℕ → State
+with_loaded s store events = record s { firmware = signalled (with_store s.firmware store) events }
+
+-- The events that are registered for the protocol of the image's handle are signalled.
 abbrev pub load_comes_to : State → Result Load LoadRefusal → LoadDone
-load_comes_to s (Ok load) = answer_for (with_loaded s load.after) load.answer.handle (find_image load.after.images load.answer.handle)
+load_comes_to s (Ok load) = answer_for (with_loaded s load.after load.answer.events) load.answer.handle (find_image load.after.images load.answer.handle)
 load_comes_to s (Err refusal) = record { status = load_status refusal; handle = 0; base = 0; pages = 0; state = s }
 
 -- An image is loaded without a parent.

@@ -1,5 +1,5 @@
 -- The machine at opening.
-use Rattle.std.specs.Prelude.{ℕ, ◌+◌, ◌*◌, ◌/◌, ◌-◌, List, [], ◌∷◌, false, true, replicate, None}
+use Rattle.std.specs.Prelude.{ℕ, ◌+◌, ◌*◌, ◌/◌, ◌-◌, List, [], ◌∷◌, false, true, replicate}
 use Rattle.guest_memory.specs.declared.rights.Rights.{Rights}
 use Rattle.guest_memory.specs.Pages.{Pages, all_rights}
 use Rattle.guest_memory.specs.Changes.{reserved, with_rights}
@@ -10,10 +10,12 @@ use Rattle.page_alloc.specs.Opening.{opening_pages}
 use Rattle.uh_base.specs.declared.guid.Guid.{Guid}
 use Rattle.handle_db.specs.Database.{fresh as fresh_protocol}
 use Rattle.protocol_db.specs.Registrations.{Protocols}
+use Rattle.event_queue.specs.Calls.{no_events}
 use Rattle.system_tables.specs.Memory.{built}
 use Rattle.variable_store.specs.Entries.{Entry}
 use Rattle.time_service.specs.Clocks.{ClockState}
 use Rattle.virtual_map.specs.States.{Runtime}
+use Rattle.firmware_core.specs.declared.frame.Phase.TheVariants.{Called}
 use Rattle.firmware_core.specs.Parts.{Parts}
 
 -- RAM that nothing was put to
@@ -54,16 +56,18 @@ with_console layout = record {
   made = 0;
 }
 
--- Every register is 0, no image is loaded, the pool has no block, and the monotonic count is 0.
-unfoldable pub opened : ℕ → ℕ → ClockState → List Entry → Parts
-opened base pages clock variables = record {
-  hart = record { x = replicate 32 0; pc = 0 };
-  running = None;
+-- Every register is 0, the level is TPL_APPLICATION, 4, no image is loaded, the pool has no block, and there is no event but
+-- tick moments. The monotonic count is 0.
+unfoldable pub opened : ℕ → ℕ → List ℕ → ClockState → List Entry → Parts
+opened base pages ticks clock variables = record {
+  hart = record { x = replicate 32 0; pc = 0; phase = Called; tpl = 4 };
+  frames = [];
   time = 0;
   runtime = runtime_at base pages;
   pool = [];
   images = [];
   protocols = with_console (layout_at base pages);
+  events = no_events ticks;
   variables = variables;
   clock = clock;
   count = 0;

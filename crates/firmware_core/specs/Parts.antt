@@ -1,22 +1,20 @@
 -- The parts of a machine.
-use Rattle.std.specs.Prelude.{ℕ, ◌≡◌, ◌+◌, ◌*◌, ◌^◌, ◌≤◌, List, Option}
+use Rattle.std.specs.Prelude.{ℕ, ◌≡◌, ◌+◌, ◌*◌, ◌^◌, ◌≤◌, List}
 use Rattle.page_alloc.specs.declared.layout.Layout.{Layout}
 use Rattle.pool_alloc.specs.Pool.{BlockPage, Together}
 use Rattle.protocol_db.specs.Registrations.{Protocols}
+use Rattle.event_queue.specs.Queue.{EventList}
 use Rattle.variable_store.specs.Entries.{Entry}
 use Rattle.time_service.specs.Clocks.{ClockState}
 use Rattle.image_services.specs.Images.{Loaded}
 use Rattle.virtual_map.specs.States.{Runtime, Belongs}
-
--- the registers x0 to x31, and the program counter
-pub record Hart : Type 0 where
-  pub x : List ℕ
-  pub pc : ℕ
+use Rattle.firmware_core.specs.declared.frame.Frame.{Frame}
+use Rattle.firmware_core.specs.Harts.{Hart}
 
 pub record Parts : Type 0 where
   pub hart : Hart
-  -- the handle of the image that runs
-  pub running : Option ℕ
+  -- what runs, the outermost first
+  pub frames : List Frame
   -- the moment, in units of 100 ns since opening
   pub time : ℕ
   -- RAM, how it is used and seen
@@ -26,6 +24,8 @@ pub record Parts : Type 0 where
   pub images : List Loaded
   -- the handles with their protocols
   pub protocols : Protocols
+  -- the events, their timers, and the queue of notifications
+  pub events : EventList
   -- the variables in order of making, the clock, and the monotonic count
   pub variables : List Entry
   pub clock : ClockState

@@ -1,13 +1,12 @@
 -- Each service of the firmware, over the parts that it reads and changes.
-use Rattle.std.specs.Prelude.{ℕ, ◌+◌, ◌==◌, ◌&&◌, not, nat_lt, ◌^◌, Bool, false, is_some, List, Option, Some, None, if◌then◌else◌}
-use Rattle.uh_base.specs.Statuses.{success, unsupported}
+use Rattle.std.specs.Prelude.{ℕ, ◌==◌, ◌&&◌, not, nat_lt, ◌^◌, Bool, false, Option, Some, None, if◌then◌else◌}
 use Rattle.guest_memory.specs.Pages.{Pages}
 use Rattle.page_alloc.specs.Pages.{PageList}
 use Rattle.address_view.specs.Windows.{see}
 use Rattle.record_text.specs.declared.cause.Cause.TheVariants as causes
 use Rattle.guest_call.specs.declared.answer.Answer.{Answer}
 use Rattle.guest_call.specs.declared.answer.Answer.TheVariants.{Gives, LacksFrames}
-use Rattle.guest_call.specs.Arguments.{argument}
+use Rattle.guest_call.specs.Arguments.{argument, low_word}
 use Rattle.memory_services.specs.Ram.{MemoryDone}
 use Rattle.memory_services.specs.PageServices.{allocate_pages, free_pages}
 use Rattle.memory_services.specs.PoolServices.{allocate_pool, free_pool}
@@ -16,18 +15,20 @@ use Rattle.memory_services.specs.Copies.{calculate_crc32, copy_mem, set_mem}
 use Rattle.console_services.specs.Console as console
 use Rattle.console_services.specs.Console.{Reply, output_string, test_string, set_mode}
 use Rattle.service_answer.specs.Answers as service
-use Rattle.protocol_services.specs.Services.{is_protocol_slot, serve_protocol}
-use Rattle.runtime_services.specs.Slots.{service_of as runtime_service_of}
+use Rattle.event_queue.specs.Queue.{signal_each}
+use Rattle.protocol_services.specs.Services.{serve_protocol}
 use Rattle.runtime_services.specs.Serving.{serve_runtime}
 use Rattle.image_services.specs.Images.{Loaded, find_image}
 use Rattle.image_services.specs.Stores.{Store}
 use Rattle.image_services.specs.Unloads.{discarded}
 use Rattle.virtual_map.specs.States.{Runtime}
-use Rattle.firmware_core.specs.declared.service.Service.{Service}
-use Rattle.firmware_core.specs.declared.service.Service.TheVariants as services
+use Rattle.firmware_core.specs.declared.frame.Frame.{Frame}
+use Rattle.firmware_core.specs.declared.frame.Purpose.{Purpose}
+use Rattle.firmware_core.specs.declared.frame.Purpose.TheVariants.{Job, Notification}
 use Rattle.firmware_core.specs.declared.conclusion.Conclusion.{Conclusion}
-use Rattle.firmware_core.specs.declared.conclusion.Conclusion.TheVariants.{Answers, Prints, Leaves, Halts}
+use Rattle.firmware_core.specs.declared.conclusion.Conclusion.TheVariants.{Answers, Prints, Continues, Leaves, Resets, Halts}
 use Rattle.firmware_core.specs.Parts.{Parts}
+use Rattle.firmware_core.specs.Frames.{top_of, below_top}
 
 -- what a service comes to, and the parts behind it
 pub record Concluded : Type 0 where
@@ -101,14 +102,17 @@ at_set_mode f = record { conclusion = Answers (set_mode (given 1 f)); firmware =
 
 -- ---- handles and protocols
 
--- No event is signalled, since no service registers one for a protocol yet.
 abbrev pub served : service.Answer → Conclusion
 served answer = if answer.frames then Halts causes.Frames else Answers answer.value
+
+-- A service answers, and its events are signalled, one after another.
+unfoldable pub announced : Parts → service.Answer → Concluded
+announced f answer = record { conclusion = served answer; firmware = record f { events = signal_each answer.events f.events } }
 
 unfoldable pub at_protocols : ℕ → Parts → Concluded
 at_protocols slot f =
     let done = serve_protocol slot f.hart.x (see f.runtime.view) f.runtime.memory f.runtime.pages f.pool f.protocols in
-    record { conclusion = served done.answer; firmware = record (with_pages f done.memory done.pages) { pool = done.pool; protocols = done.protocols } }
+    announced (record (with_pages f done.memory done.pages) { pool = done.pool; protocols = done.protocols }) done.answer
 
 -- ---- variables, time, the monotonic count and capsules
 
@@ -117,7 +121,13 @@ at_runtime slot f =
     let done = serve_runtime slot f.hart.x (see f.runtime.view) f.runtime.memory f.variables f.clock f.count f.time false in
     record { conclusion = served done.answer; firmware = record (with_memory f done.memory) { variables = done.variables; clock = done.clock; count = done.count } }
 
--- ---- the return of an image
+-- ---- the reset
+
+-- ResetSystem(type, status): the run is over, since there is no platform to start again. (UEFI 2.10, 8.5.1)
+abbrev pub at_reset : Parts → Concluded
+at_reset f = record { conclusion = Resets (low_word (given 0 f)) (given 1 f); firmware = f }
+
+-- ---- the return of what runs
 
 -- An application, and a driver whose status is an error, is unloaded when it returns. (UEFI 2.10, 7.4: StartImage)
 abbrev pub stays : ℕ → ℕ → Bool
@@ -135,64 +145,29 @@ abbrev pub goes : ℕ → Option Loaded → Bool
 goes status None = false
 goes status (Some image) = not (stays image.subsystem status)
 
-abbrev pub without_running : Parts → Parts
-without_running f = record f { running = None }
-
 abbrev pub without_image : Parts → ℕ → Parts
 without_image f handle = with_store f (discarded (store_of f) handle)
 
-abbrev pub returned : Parts → ℕ → Option ℕ → Parts
-returned f status None = f
-returned f status (Some handle) = if goes status (find_image f.images handle) then without_image (without_running f) handle else without_running f
+abbrev pub image_ended : Parts → ℕ → ℕ → Parts
+image_ended f handle status = if goes status (find_image f.images handle) then without_image f handle else f
 
--- The image that runs returns with the status in a0.
+-- the level as it was at the frame's start
+abbrev pub with_level : Parts → ℕ → Parts
+with_level f tpl = record f { hart = record f.hart { tpl = tpl } }
+
+-- Behind a notification the hart is as it was. The image of a job leaves with the status in a0, at the level of its start.
+unfoldable pub frame_ended : Parts → Frame → Concluded
+frame_ended f frame = by_purpose frame.purpose
+  where
+    by_purpose : Purpose → Concluded
+    by_purpose Notification = record { conclusion = Continues; firmware = record f { hart = frame.back } }
+    by_purpose (Job handle) = record { conclusion = Leaves (given 0 f); firmware = image_ended (with_level f frame.back.tpl) handle (given 0 f) }
+
+-- With no frame the slot is no service, so that it isn't come to.
+abbrev pub returned : Parts → Option Frame → Concluded
+returned f None = record { conclusion = Continues; firmware = f }
+returned f (Some frame) = frame_ended (record f { frames = below_top f.frames }) frame
+
+-- The innermost frame ends.
 unfoldable pub at_return : Parts → Concluded
-at_return f = record { conclusion = Leaves (given 0 f); firmware = returned f (given 0 f) f.running }
-
--- ---- the choice
-
--- the service of any other slot: its place in the slot page, 16 bytes each, by this host's choice
-unfoldable pub service_of : ℕ → Service
-service_of slot =
-    if slot == 2 then services.AllocatePages
-    else (if slot == 3 then services.FreePages
-    else (if slot == 4 then services.GetMemoryMap
-    else (if slot == 5 then services.AllocatePool
-    else (if slot == 6 then services.FreePool
-    else (if slot == 40 then services.CalculateCrc32
-    else (if slot == 41 then services.CopyMem
-    else (if slot == 42 then services.SetMem
-    else (if slot == 59 then services.OutputString
-    else (if slot == 60 then services.TestString
-    else (if slot == 62 then services.SetMode
-    else (if slot == 58 then services.Screen
-    else (if slot == 63 then services.Screen
-    else (if slot == 64 then services.Screen
-    else (if slot == 65 then services.Screen
-    else (if slot == 66 then services.Screen
-    else (if slot == 67 then services.Return
-    else services.Unbuilt))))))))))))))))
-
--- What changes a screen alone is answered with success, since a run shows none. A service that isn't built is unsupported.
-unfoldable pub serve : Service → Parts → Concluded
-serve services.AllocatePages f = at_allocate_pages f
-serve services.FreePages f = at_free_pages f
-serve services.GetMemoryMap f = at_get_memory_map f
-serve services.AllocatePool f = at_allocate_pool f
-serve services.FreePool f = at_free_pool f
-serve services.CalculateCrc32 f = at_calculate_crc32 f
-serve services.CopyMem f = at_copy_mem f
-serve services.SetMem f = at_set_mem f
-serve services.OutputString f = at_output_string f
-serve services.TestString f = at_test_string f
-serve services.SetMode f = at_set_mode f
-serve services.Screen f = record { conclusion = Answers success; firmware = f }
-serve services.Return f = at_return f
-serve services.Unbuilt f = record { conclusion = Answers unsupported; firmware = f }
-
--- the service of a slot
-unfoldable pub serve_slot : ℕ → Parts → Concluded
-serve_slot slot f =
-    if is_protocol_slot slot then at_protocols slot f
-    else (if is_some (runtime_service_of slot) then at_runtime slot f
-    else serve (service_of slot) f)
+at_return f = returned f (top_of f.frames)

@@ -1,5 +1,5 @@
 -- One turn of the machine.
-use Rattle.std.specs.Prelude.{ℕ, ◌+◌, ◌-◌, ◌*◌, ◌/◌, ◌%◌, ◌^◌, ◌==◌, ◌&&◌, not, nat_le, min, Bool, Option, Some, None, slice_index, slice_set, if◌then◌else◌}
+use Rattle.std.specs.Prelude.{ℕ, ◌+◌, ◌-◌, ◌*◌, ◌/◌, ◌%◌, ◌^◌, ◌==◌, ◌&&◌, ◌||◌, not, nat_le, nat_lt, min, Bool, length, Option, Some, None, slice_index, slice_set, if◌then◌else◌}
 use Rattle.rv_step.specs.declared.bus.Access.TheVariants as access
 use Rattle.rv_step.specs.declared.ends.Trap.{Trap}
 use Rattle.rv_step.specs.declared.ends.Trap.TheVariants as traps
@@ -10,17 +10,22 @@ use Rattle.record_text.specs.declared.cause.Cause.TheVariants as causes
 use Rattle.record_text.specs.declared.line.Line.TheVariants as lines
 use Rattle.virtual_map.specs.Instructions.{Carried, carried}
 use Rattle.firmware_core.specs.declared.happened.Happened.{Happened}
-use Rattle.firmware_core.specs.declared.happened.Happened.TheVariants.{Turned, Said, Left, Halted}
+use Rattle.firmware_core.specs.declared.happened.Happened.TheVariants.{Turned, Said, Left, Reset, Halted}
 use Rattle.firmware_core.specs.declared.conclusion.Conclusion.{Conclusion}
-use Rattle.firmware_core.specs.declared.conclusion.Conclusion.TheVariants.{Answers, Prints, Leaves, Halts}
+use Rattle.firmware_core.specs.declared.conclusion.Conclusion.TheVariants.{Answers, Prints, Continues, Leaves, Resets, Halts}
+use Rattle.event_queue.specs.declared.event.Notify.{Notify}
+use Rattle.firmware_core.specs.declared.frame.Phase.TheVariants.{Called}
 use Rattle.firmware_core.specs.Parts.{Parts}
-use Rattle.firmware_core.specs.Services.{Concluded, serve_slot}
+use Rattle.firmware_core.specs.Frames.{tick_is_due, with_tick, notice_of, without_notice, is_full, with_notification}
+use Rattle.firmware_core.specs.Services.{Concluded}
+use Rattle.firmware_core.specs.Slots.{serve_slot}
 
--- the parts, and the job under way: its counted steps, and their bound
+-- the parts, the job under way with its counted steps and their bound, and whether each answer of a service is a line
 pub record State : Type 0 where
   pub firmware : Parts
   pub steps : ℕ
   pub bound : ℕ
+  pub trace : Bool
 
 -- what happens in a turn, and the state behind it
 pub record Turn : Type 0 where
@@ -36,20 +41,31 @@ abbrev pub passed : Parts → Parts
 passed f = record f { time = min (f.time + 1) (2 ^ 64 - 1) }
 
 abbrev pub counted : State → Parts → State
-counted s f = record { firmware = passed f; steps = s.steps + 1; bound = s.bound }
+counted s f = record { firmware = passed f; steps = s.steps + 1; bound = s.bound; trace = s.trace }
 
 -- ---- which turn comes
 
--- Slot k begins 16 k bytes into the slot page. Slots 0 to 67 are services, but for 17, which is reserved.
+-- Slot k begins 16 k bytes into the slot page. Slots 0 to 66 are services, but for 17, which is reserved, and slot 67 is
+-- returned to.
 abbrev pub is_slot : ℕ → Bool
 is_slot offset = offset % 16 == 0 && (nat_le offset (16 * 67) && not (offset == 16 * 17))
 
+-- Only what runs in a frame returns.
+abbrev pub can_return : Parts → ℕ → Bool
+can_return f offset = not (offset == 16 * 67) || nat_lt 0 (length f.frames)
+
+abbrev pub offset_of : Parts → ℕ
+offset_of f = f.hart.pc - f.runtime.layout.slots
+
 -- the slot that the program counter is at
 abbrev pub slot_at : Parts → Option ℕ
-slot_at f = if nat_le f.runtime.layout.slots f.hart.pc && is_slot (f.hart.pc - f.runtime.layout.slots) then Some ((f.hart.pc - f.runtime.layout.slots) / 16) else None
+slot_at f = if nat_le f.runtime.layout.slots f.hart.pc && (is_slot (offset_of f) && can_return f (offset_of f)) then Some (offset_of f / 16) else None
 
--- The job's bound is reached; or the service of a slot comes; or an instruction.
+-- A tick comes, or the start of a notification; or the job's bound is reached; or the service of a slot comes; or an
+-- instruction.
 pub data Next : Type 0 where
+  Tick : Next
+  Notice : (notify : Notify) → Next
   Bound : Next
   Slot : (slot : ℕ) → Next
   Instruction : Next
@@ -58,24 +74,52 @@ abbrev pub by_slot : Option ℕ → Next
 by_slot None = Instruction
 by_slot (Some slot) = Slot slot
 
+-- a turn that counts a step, or the bound
+abbrev pub counted_next : State → Next
+counted_next s = if s.steps == s.bound then Bound else by_slot (slot_at s.firmware)
+
+abbrev pub by_notice : Option Notify → State → Next
+by_notice (Some notify) s = Notice notify
+by_notice None s = counted_next s
+
 unfoldable pub next_turn : State → Next
-next_turn s = if s.steps == s.bound then Bound else by_slot (slot_at s.firmware)
+next_turn s = if tick_is_due s.firmware then Tick else by_notice (notice_of s.firmware) s
+
+-- ---- a tick and the start of a notification, which count no step and take no time
+
+abbrev pub with_firmware : State → Parts → State
+with_firmware s f = record s { firmware = f }
+
+abbrev pub tick_turn : State → Turn
+tick_turn s = record { happened = Turned; state = with_firmware s (with_tick s.firmware) }
+
+-- A notification doesn't start where 64 frames stand: the run halts.
+abbrev pub notice_turn : Notify → State → Turn
+notice_turn notify s =
+    if is_full s.firmware then record { happened = halted causes.Depth s.firmware.hart.pc 0; state = s }
+    else record { happened = Turned; state = with_firmware s (with_notification (without_notice s.firmware) notify) }
 
 -- ---- a service
 
 -- A service answers in a0, which is register 10, and continues at ra, which is register 1.
 abbrev pub answered : Parts → ℕ → Parts
-answered f a0 = record f { hart = record { x = slice_set f.hart.x 10 a0; pc = slice_index f.hart.x 1 } }
+answered f a0 = record f { hart = record { x = slice_set f.hart.x 10 a0; pc = slice_index f.hart.x 1; phase = Called; tpl = f.hart.tpl } }
 
--- what is made of a service called at a program counter; a text that it prints is a line
-abbrev pub comes_to : ℕ → State → Conclusion → Parts → Turn
-comes_to pc s (Answers a0) f = record { happened = Turned; state = counted s (answered f a0) }
-comes_to pc s (Prints text a0) f = record { happened = Said (lines.Console text); state = counted s (answered f a0) }
-comes_to pc s (Leaves value) f = record { happened = Left value (s.steps + 1); state = counted s f }
-comes_to pc s (Halts cause) f = record { happened = halted cause pc 0; state = record s { firmware = f } }
+-- An answer is a line where it is asked for.
+abbrev pub told : State → ℕ → ℕ → Happened
+told s slot a0 = if s.trace then Said (lines.Svc slot a0) else Turned
+
+-- what is made of a service called at a slot and a program counter; a text that it prints is a line
+abbrev pub comes_to : ℕ → ℕ → State → Conclusion → Parts → Turn
+comes_to slot pc s (Answers a0) f = record { happened = told s slot a0; state = counted s (answered f a0) }
+comes_to slot pc s (Prints text a0) f = record { happened = Said (lines.Console text); state = counted s (answered f a0) }
+comes_to slot pc s Continues f = record { happened = Turned; state = counted s f }
+comes_to slot pc s (Leaves value) f = record { happened = Left value (s.steps + 1); state = counted s f }
+comes_to slot pc s (Resets kind status) f = record { happened = Reset kind status; state = record s { firmware = f } }
+comes_to slot pc s (Halts cause) f = record { happened = halted cause pc 0; state = record s { firmware = f } }
 
 unfoldable pub service_turn : ℕ → State → Turn
-service_turn slot s = comes_to s.firmware.hart.pc s (serve_slot slot s.firmware).conclusion (serve_slot slot s.firmware).firmware
+service_turn slot s = comes_to slot s.firmware.hart.pc s (serve_slot slot s.firmware).conclusion (serve_slot slot s.firmware).firmware
 
 -- ---- an instruction
 
@@ -89,7 +133,7 @@ trapped (traps.Fault at access.Store) pc = halted causes.Store pc at
 trapped (traps.Fault at access.Fetch) pc = halted causes.Fetch pc at
 
 abbrev pub with_carried : Parts → Carried → Parts
-with_carried f c = record f { hart = record { x = c.x; pc = c.pc }; runtime = c.runtime }
+with_carried f c = record f { hart = record f.hart { x = c.x; pc = c.pc }; runtime = c.runtime }
 
 -- how an instruction ends, and the parts behind it
 pub record Instructed : Type 0 where
@@ -112,6 +156,8 @@ instruction_turn s = carried_out s.firmware.hart.pc s (instructed s.firmware).en
 -- ---- the turn
 
 abbrev pub by_next : Next → State → Turn
+by_next Tick s = tick_turn s
+by_next (Notice notify) s = notice_turn notify s
 by_next Bound s = record { happened = halted causes.Bound s.firmware.hart.pc 0; state = s }
 by_next (Slot slot) s = service_turn slot s
 by_next Instruction s = instruction_turn s

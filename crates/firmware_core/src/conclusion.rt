@@ -9,8 +9,12 @@ pub enum Conclusion {
     Answers(u64),
     /// A text that it prints, and a value for a0.
     Prints(Text, u64),
-    /// The image that runs returns with this status.
+    /// The hart goes on as the service left it.
+    Continues,
+    /// The job is over, with this status of its image.
     Leaves(u64),
-    /// The run is over.
+    /// The run is over, by a reset of this type, with this status.
+    Resets(u32, u64),
+    /// The run is over, for this cause.
     Halts(Cause),
 }

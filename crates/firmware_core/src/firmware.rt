@@ -1,15 +1,18 @@
 //! The firmware: all that services and instructions read and change.
-ghost use Rattle.std.specs.Prelude.{◌≡◌, ◌≢◌, IfOk, Some};
+ghost use Rattle.std.specs.Prelude.{◌≡◌, ◌≢◌, ◌≤◌, IfOk, IfNone, OnOk, OnSome, is_some, true};
 ghost use Rattle.page_alloc.specs.Layout.{IsRam};
 ghost use Rattle.rv_step.specs.declared.ends.StepEnd.TheVariants as ends;
 ghost use Rattle.firmware_core.specs.Opening.{opened};
 ghost use Rattle.firmware_core.specs.Parts.{Whole};
 ghost use Rattle.image_services.specs.Images.{with_started};
-ghost use Rattle.firmware_core.specs.Jobs.{registers_at_start};
+ghost use Rattle.firmware_core.specs.Jobs.{with_image};
+ghost use Rattle.firmware_core.specs.Frames.{tick_is_due, with_tick, is_full, pushed, registers_for, notice_of, without_notice, with_notification};
 ghost use Rattle.firmware_core.specs.Turns.{slot_at, answered, passed, Instructed, instructed};
 
+use crate::frame::{Frame, Hart, Phase, Purpose};
 use crate::opening::{layout_spreads, runtime_at, with_console};
 use address_view::CodePage;
+use event_queue::{Events, Notify};
 use image_services::Images;
 use pool_alloc::Pool;
 use protocol_db::Protocols;
@@ -17,6 +20,7 @@ use rv_decode::KnownWords;
 use rv_step::{Regs, StepEnd};
 use std::alloc::{AllocError, Global};
 use std::marker::Model;
+use std::mem::replace;
 use time_service::Clock;
 use variable_store::Variables;
 use virtual_map::{RuntimeState, instruction};
@@ -24,15 +28,16 @@ use virtual_map::{RuntimeState, instruction};
 /// All that services and instructions read and change.
 #[derive(Drop)]
 pub struct Firmware {
-    pub(crate) regs: Regs,
-    /// The handle of the image that runs.
-    pub(crate) running: Option<u64>,
+    pub(crate) hart: Hart,
+    /// What runs, the outermost first.
+    pub(crate) frames: Vec<Frame>,
     /// The moment, in units of 100 ns since opening.
     pub(crate) time: u64,
     pub(crate) runtime: RuntimeState,
     pub(crate) pool: Pool,
     pub(crate) images: Images,
     pub(crate) protocols: Protocols,
+    pub(crate) events: Events,
     pub(crate) variables: Variables,
     pub(crate) clock: Clock,
     /// The monotonic count.
@@ -50,36 +55,48 @@ impl Model for Firmware {
 
     ghost Value = { Parts };
 
-    ghost view = { λ f. record { hart = record { x = f.regs.x; pc = f.regs.pc }; running = f.running; time = f.time; runtime = f.runtime; pool = f.pool; images = f.images; protocols = f.protocols; variables = f.variables; clock = f.clock; count = f.count } };
+    ghost view = { λ f. record { hart = f.hart; frames = f.frames.items; time = f.time; runtime = f.runtime; pool = f.pool; images = f.images; protocols = f.protocols; events = f.events; variables = f.variables; clock = f.clock; count = f.count } };
 
-    ghost invariant = { λ f. Whole (record { hart = record { x = f.regs.x; pc = f.regs.pc }; running = f.running; time = f.time; runtime = f.runtime; pool = f.pool; images = f.images; protocols = f.protocols; variables = f.variables; clock = f.clock; count = f.count }) × IsCode (see f.runtime.view) f.runtime.memory f.code };
+    ghost invariant = { λ f. Whole (record { hart = f.hart; frames = f.frames.items; time = f.time; runtime = f.runtime; pool = f.pool; images = f.images; protocols = f.protocols; events = f.events; variables = f.variables; clock = f.clock; count = f.count }) × IsCode (see f.runtime.view) f.runtime.memory f.code };
 }
 
+/// The most frames that stand, by this host's choice.
+const MOST_FRAMES: usize = 64;
+
 impl Firmware {
-    /// The firmware at opening, over so many pages of RAM from an address on, with a clock and variables.
+    /// The firmware at opening, over so many pages of RAM from an address on, with tick moments beside the usual ones, a clock
+    /// and variables.
     #[tactic(auto, unfolding(crate::specs::Opening::opened))]
     pub(crate) fn new(
         alloc: Global,
         base: u64,
         pages: u32,
+        ticks: Vec<u64>,
         clock: Clock,
         variables: Variables,
     ) -> Result<Firmware, AllocError>
         requires ram { IsRam base pages }
         requires clock { clock.set_at ≡ 0 }
-        ensures { IfOk result (λ f. f ≡ opened base pages clock variables) }
+        ensures { IfOk result (λ f. f ≡ opened base pages ticks.items clock variables) }
     {
         let known = KnownWords::new(alloc)?;
         let runtime = runtime_at(alloc, base, pages)?;
         let protocols = with_console(alloc, &runtime.layout)?;
+        let frames = Vec::with_capacity(alloc, MOST_FRAMES)?;
+        let events = Events::new(alloc, ticks)?;
         Ok(Firmware {
-            regs: Regs { x: [0; 32], pc: 0 },
-            running: None,
+            hart: Hart {
+                regs: Regs { x: [0; 32], pc: 0 },
+                phase: Phase::Called,
+                tpl: 4,
+            },
+            frames,
             time: 0,
             runtime,
             pool: Pool::new(alloc),
             images: Images::new(alloc),
             protocols,
+            events,
             variables,
             clock,
             count: 0,
@@ -100,7 +117,7 @@ impl Firmware {
     pub(crate) fn pc(&self) -> u64
         ensures { result ≡ self.now.hart.pc }
     {
-        self.regs.pc
+        self.hart.regs.pc
     }
 
     /// The slot that the program counter is at.
@@ -109,11 +126,15 @@ impl Firmware {
         ensures { result ≡ slot_at self.now }
     {
         let slots = self.runtime.layout.slots;
-        if self.regs.pc < slots {
+        if self.hart.regs.pc < slots {
             return None;
         }
-        let offset = self.regs.pc - slots;
-        if offset % 16 == 0 && offset <= 16 * 67 && offset != 16 * 17 {
+        let offset = self.hart.regs.pc - slots;
+        if offset % 16 == 0
+            && offset <= 16 * 67
+            && offset != 16 * 17
+            && (offset != 16 * 67 || !self.frames.is_empty())
+        {
             Some((offset / 16) as u8)
         } else {
             None
@@ -124,25 +145,51 @@ impl Firmware {
     pub(crate) fn answer(&mut self, a0: u64)
         ensures { self.new ≡ answered self.old a0 }
     {
-        self.regs.pc = self.regs.x[1];
-        self.regs.x[10] = a0;
+        self.hart.regs.pc = self.hart.regs.x[1];
+        self.hart.regs.x[10] = a0;
+        self.hart.phase = Phase::Called;
     }
 
-    /// Begins the image of a handle at its entry point.
-    pub(crate) fn start(&mut self, handle: u64, entry: u64)
-        ensures { self.new ≡ record self.old { hart = record { x = registers_at_start self.old.runtime.layout handle; pc = entry }; running = Some handle; images = with_started self.old.images handle } }
+    /// What code begins with: its return address, its stack and two arguments.
+    fn registers_for(&self, sp: u64, a0: u64, a1: u64) -> [u64; 32]
+        ensures { result ≡ registers_for self.now.runtime.layout sp a0 a1 }
     {
         self.whole();
         let runtime = &self.runtime;
         layout_spreads(&runtime.layout);
         let mut x = [0; 32];
         x[1] = runtime.layout.slots + 16 * 67;
-        x[2] = runtime.layout.boot;
-        x[10] = handle;
-        x[11] = runtime.layout.system;
-        self.regs = Regs { x, pc: entry };
-        self.running = Some(handle);
+        x[2] = sp;
+        x[10] = a0;
+        x[11] = a1;
+        x
+    }
+
+    /// Begins other code. Its caller is kept.
+    fn push(&mut self, purpose: Purpose, hart: Hart) -> Result<(), AllocError>
+        ensures { OnOk result (self.new ≡ pushed self.old purpose hart) }
+    {
+        let back = replace(&mut self.hart, hart);
+        self.frames.push(Frame { purpose, back })?;
+        Ok(())
+    }
+
+    /// Begins the image of a handle at its entry point, for a job.
+    #[tactic(auto, unfolding(crate::specs::Jobs::started))]
+    pub(crate) fn start(&mut self, handle: u64, entry: u64) -> Result<(), AllocError>
+        ensures { OnOk result (self.new ≡ record (with_image self.old handle entry) { images = with_started self.old.images handle }) }
+    {
+        let runtime = &self.runtime;
+        let (boot, system) = (runtime.layout.boot, runtime.layout.system);
+        let x = self.registers_for(boot, handle, system);
+        let hart = Hart {
+            regs: Regs { x, pc: entry },
+            phase: Phase::Called,
+            tpl: self.hart.tpl,
+        };
+        self.push(Purpose::Job(handle), hart)?;
         self.images.mark(handle);
+        Ok(())
     }
 
     /// A unit of time passes.
@@ -153,6 +200,65 @@ impl Firmware {
         self.time = self.time.saturating_add(1);
     }
 
+    /// Whether a tick is due.
+    #[inline(always)]
+    pub(crate) fn tick_is_due(&self) -> bool
+        ensures { result ≡ tick_is_due self.now }
+    {
+        self.events.has_tick(self.time)
+    }
+
+    /// The tick that is due.
+    #[tactic(auto, unfolding(event_queue::specs::Timers::after_tick))]
+    pub(crate) fn tick(&mut self)
+        requires { tick_is_due self.old ≡ true }
+        ensures { self.new ≡ with_tick self.old }
+    {
+        self.events.tick(self.time);
+    }
+
+    /// Whether a notification comes next.
+    #[inline(always)]
+    pub(crate) fn has_notice(&self) -> bool
+        ensures { result ≡ is_some (notice_of self.now) }
+    {
+        self.events.has_next(self.hart.tpl)
+    }
+
+    /// Takes the notification that comes next.
+    pub(crate) fn take_notice(&mut self) -> Option<Notify>
+        ensures answer { result ≡ notice_of self.old }
+        ensures firmware { self.new ≡ without_notice self.old }
+        ensures kept { IfNone result (self.new ≡ self.old) }
+    {
+        self.events.next(self.hart.tpl)
+    }
+
+    /// Whether no further frame can be pushed.
+    pub(crate) fn is_full(&self) -> bool
+        ensures { result ≡ is_full self.now }
+    {
+        self.frames.len() >= MOST_FRAMES
+    }
+
+    /// Begins a notification's function.
+    #[tactic(auto, unfolding(crate::specs::Frames::with_notification))]
+    pub(crate) fn notify(&mut self, notify: Notify) -> Result<(), AllocError>
+        ensures { OnOk result (self.new ≡ with_notification self.old notify) }
+    {
+        let sp = self.hart.regs.x[2];
+        let x = self.registers_for(sp - sp % 16, notify.event, notify.context);
+        let hart = Hart {
+            regs: Regs {
+                x,
+                pc: notify.function,
+            },
+            phase: Phase::Called,
+            tpl: notify.tpl,
+        };
+        self.push(Purpose::Notification, hart)
+    }
+
     /// The instruction at the program counter.
     #[tactic(auto, unfolding(crate::specs::Turns::instructed))]
     #[inline(always)]
@@ -161,7 +267,7 @@ impl Firmware {
     {
         let known = &mut self.known;
         let code = &mut self.code;
-        let regs = &mut self.regs;
+        let regs = &mut self.hart.regs;
         instruction(known, code, regs, &mut self.runtime)
     }
 }

@@ -14,12 +14,14 @@ pub struct Halt {
 /// What happens in a turn.
 #[derive(Drop)]
 pub enum Happened {
-    /// An instruction was carried out, or a service answered.
+    /// A tick came, a notification started, an instruction was carried out, or a service answered.
     Turned,
     /// A service answered and said this line.
     Said(Line),
     /// The job is over: the status in a0, and the steps of the job.
     Left { value: u64, steps: u64 },
+    /// The run is over, by ResetSystem: the type of the reset, and its status (UEFI 2.10, 8.5.1).
+    Reset { kind: u32, status: u64 },
     /// The run is over.
     Halted(Halt),
 }
@@ -29,6 +31,8 @@ pub enum Happened {
 pub enum JobEnd {
     /// The image returned: the status in a0, and the steps of the job.
     Left { value: u64, steps: u64 },
+    /// The run is over, by ResetSystem: the type of the reset, and its status (UEFI 2.10, 8.5.1).
+    Reset { kind: u32, status: u64 },
     /// The run is over.
     Halted(Halt),
 }

@@ -1,12 +1,17 @@
 //! A job: an image that is started, and its turns to the end.
-ghost use Rattle.std.specs.Prelude.{◌≡◌, IfOk};
+ghost use Rattle.std.specs.Prelude.{◌≡◌, ◌<◌, IfOk, OnOk};
 ghost use Rattle.image_services.specs.Images.{find_image};
-ghost use Rattle.firmware_core.specs.Jobs.{fresh_entry, begun, started, next_said, Says};
+ghost use Rattle.firmware_core.specs.declared.happened.Happened.TheVariants.{Turned};
+ghost use Rattle.firmware_core.specs.Turns.{turn_of};
+ghost use Rattle.firmware_core.specs.Jobs.{fresh_entry, begun, started, Says};
+ghost use Rattle.firmware_core.specs.Views.{potential};
 
 use crate::firmware::Firmware;
 use crate::happened::Happened;
+use crate::laws::jobs_are_turns;
 use crate::machine::Machine;
 use crate::turn::step_machine;
+use event_queue::{next_is_above, ticks_once};
 use std::alloc::{AllocError, Global};
 
 /// What a machine is to do.
@@ -19,13 +24,13 @@ pub enum Job {
 impl Machine {
     /// Begins the image of a handle at its entry point.
     #[tactic(auto, unfolding(crate::specs::Jobs::started))]
-    fn start(&mut self, handle: u64, entry: u64, bound: u64)
-        ensures { self.new ≡ started self.old handle entry bound }
+    fn start(&mut self, handle: u64, entry: u64, bound: u64) -> Result<(), AllocError>
+        ensures { OnOk result (self.new ≡ started self.old handle entry bound) }
     {
-        let firmware = &mut self.firmware;
-        firmware.start(handle, entry);
+        self.firmware.start(handle, entry)?;
         self.steps = 0;
         self.bound = bound;
+        Ok(())
     }
 }
 
@@ -47,49 +52,55 @@ impl Firmware {
     }
 }
 
-/// Begins a job. False where its image isn't loaded or was started before; then nothing changes.
+/// Begins a job. False where its image isn't loaded or was started before; then nothing changes. After want of memory the
+/// machine may only be dropped.
 #[tactic(auto, unfolding(crate::specs::Jobs::begun))]
-pub fn begin(machine: &mut Machine, job: &Job) -> bool
-    ensures { record { begins = result; state = machine.new } ≡ begun machine.old job.now }
+pub fn begin(machine: &mut Machine, job: &Job) -> Result<bool, AllocError>
+    ensures { IfOk result (λ begins. record { begins = begins; state = machine.new } ≡ begun machine.old job.now) }
 {
     match job {
         Job::Start { handle, bound } => match machine.firmware.fresh_entry(*handle) {
             Some(entry) => {
-                machine.start(*handle, entry, *bound);
-                true
+                machine.start(*handle, entry, *bound)?;
+                Ok(true)
             }
-            None => false,
+            None => Ok(false),
         },
     }
 }
 
-/// The next turn that says a line or ends the job.
-fn next_said(alloc: Global, machine: &mut Machine) -> Result<Happened, AllocError>
-    ensures { IfOk result (λ h. record { happened = h; state = machine.new } ≡ next_said machine.old) }
+/// Makes one turn. One that doesn't end the job brings its end nearer.
+#[tactic(auto, using(crate::proofs::NearerLemmas::nearer))]
+fn make_turn(alloc: Global, machine: &mut Machine) -> Result<Happened, AllocError>
+    ensures turn { IfOk result (λ h. record { happened = h; state = machine.new } ≡ turn_of machine.old) }
+    ensures nearer { IfOk result (λ h. h ≡ Turned → potential machine.new < potential machine.old) }
 {
     machine.whole();
-    for step in machine.steps..machine.bound {
-        match machine.run_plain(machine.bound) {
-            Ok(_) => {}
-            Err(_) => return Err(AllocError),
-        }
-        machine.whole();
-        match step_machine(alloc, machine) {
-            Ok(Happened::Turned) => {}
-            Ok(Happened::Said(line)) => return Ok(Happened::Said(line)),
-            Ok(Happened::Left { value, steps }) => return Ok(Happened::Left { value, steps }),
-            Ok(Happened::Halted(halt)) => return Ok(Happened::Halted(halt)),
-            Err(_) => return Err(AllocError),
-        }
-    }
+    machine.firmware.events.whole();
+    next_is_above();
+    ticks_once();
     step_machine(alloc, machine)
 }
 
 /// Makes turns up to the next one that says a line or ends the job. After want of memory the machine may only be dropped.
-#[tactic(auto, using(crate::proofs::JobLemmas::says))]
 pub fn run_machine(alloc: Global, machine: &mut Machine) -> Result<Happened, AllocError>
     ensures { IfOk result (λ happened. Says happened machine.old machine.new) }
 {
     machine.whole();
-    next_said(alloc, machine)
+    jobs_are_turns();
+    loop {
+        let end = machine.quiet_end();
+        match machine.run_plain(end) {
+            Ok(_) => {}
+            Err(_) => return Err(AllocError),
+        }
+        match make_turn(alloc, machine) {
+            Ok(Happened::Turned) => {}
+            Ok(Happened::Said(line)) => return Ok(Happened::Said(line)),
+            Ok(Happened::Left { value, steps }) => return Ok(Happened::Left { value, steps }),
+            Ok(Happened::Reset { kind, status }) => return Ok(Happened::Reset { kind, status }),
+            Ok(Happened::Halted(halt)) => return Ok(Happened::Halted(halt)),
+            Err(_) => return Err(AllocError),
+        }
+    }
 }

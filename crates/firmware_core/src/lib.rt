@@ -1,22 +1,30 @@
 //! The machine that runs guest code, one turn at a time.
 //!
-//! A turn is one instruction, or one service of the firmware where the program counter stands at its slot.
+//! A turn is a tick of the timers, the start of a notification, one service of the firmware where the program counter stands at
+//! its slot, or one instruction.
 #![tactic(auto)]
 
 mod conclusion;
+mod event_service;
+mod event_slots;
 mod firmware;
+mod frame;
 mod happened;
 mod job;
+mod laws;
 mod loading;
 mod machine;
 mod opening;
 mod plain;
+mod returning;
 mod service;
 mod serving;
+mod slots;
 mod turn;
 
 pub use happened::{Halt, Happened, JobEnd};
 pub use job::{Job, begin, run_machine};
+pub use laws::jobs_are_turns;
 pub use loading::load;
 pub use machine::{Machine, Setup};
 pub use turn::step_machine;

@@ -3,7 +3,7 @@ ghost use Rattle.std.specs.Prelude.{◌≡◌, ◌≤◌, IfOk, length};
 ghost use Rattle.image_services.specs.Loads.{load_of};
 ghost use Rattle.image_services.specs.Views.{LoadGives};
 ghost use Rattle.firmware_core.specs.Services.{store_of, with_store};
-ghost use Rattle.firmware_core.specs.Loads.{loaded};
+ghost use Rattle.firmware_core.specs.Loads.{signalled, loaded};
 
 use crate::firmware::Firmware;
 use crate::machine::Machine;
@@ -40,6 +40,15 @@ impl Firmware {
     }
 }
 
+impl Firmware {
+    /// Signals events.
+    fn signal(&mut self, events: &[u64])
+        ensures { self.new ≡ signalled self.old events.now }
+    {
+        self.events.signal_all(events);
+    }
+}
+
 /// What a load answers where it is refused with a status.
 fn refused(status: EfiStatus) -> (EfiStatus, u64, u64, u32)
     ensures status { result.0 ≡ status }
@@ -62,10 +71,13 @@ pub fn load(
     ensures { IfOk result (λ r. record { status = r.0.0; handle = r.1; base = r.2; pages = r.3; state = machine.new } ≡ loaded machine.old file.now) }
 {
     match machine.firmware.load(alloc, file) {
-        Ok(loaded) => match machine.firmware.images.find(loaded.handle) {
-            Some(image) => Ok((EfiStatus::SUCCESS, loaded.handle, image.base, image.pages)),
-            None => Ok((EfiStatus::SUCCESS, 0, 0, 0)),
-        },
+        Ok(loaded) => {
+            machine.firmware.signal(loaded.events.as_slice());
+            match machine.firmware.images.find(loaded.handle) {
+                Some(image) => Ok((EfiStatus::SUCCESS, loaded.handle, image.base, image.pages)),
+                None => Ok((EfiStatus::SUCCESS, 0, 0, 0)),
+            }
+        }
         Err(LoadRefusal::Memory) => Err(AllocError),
         Err(LoadRefusal::TooMany) => Ok(refused(LoadRefusal::TooMany.status())),
         Err(LoadRefusal::Pe(fault)) => Ok(refused(LoadRefusal::Pe(fault).status())),

@@ -19,9 +19,13 @@ pub struct Setup {
     pub base: u64,
     /// How many pages of 4,096 bytes RAM has.
     pub pages: u32,
+    /// Tick moments beside the multiples of 10,000, in units of 100 ns.
+    pub ticks: Vec<u64>,
     /// The time at opening.
     pub clock: Clock,
     pub variables: Variables,
+    /// Whether each answer of a service is a line.
+    pub trace: bool,
 }
 
 /// The firmware with its hart, and the job under way.
@@ -32,6 +36,8 @@ pub struct Machine {
     pub(crate) steps: u64,
     /// The most steps of the job.
     pub(crate) bound: u64,
+    /// Whether each answer of a service is a line.
+    pub(crate) trace: bool,
 }
 
 impl Model for Machine {
@@ -40,7 +46,7 @@ impl Model for Machine {
 
     ghost Value = { State };
 
-    ghost view = { λ m. record { firmware = m.firmware; steps = m.steps; bound = m.bound } };
+    ghost view = { λ m. record { firmware = m.firmware; steps = m.steps; bound = m.bound; trace = m.trace } };
 
     ghost invariant = { λ m. m.steps ≤ m.bound };
 }
@@ -50,12 +56,21 @@ impl Machine {
     pub fn new(alloc: Global, setup: Setup) -> Result<Machine, AllocError>
         requires ram { IsRam setup.base setup.pages }
         requires clock { setup.clock.set_at ≡ 0 }
-        ensures { IfOk result (λ m. m ≡ record { firmware = opened setup.base setup.pages setup.clock setup.variables; steps = 0; bound = 0 }) }
+        ensures { IfOk result (λ m. m ≡ record { firmware = opened setup.base setup.pages setup.ticks.items setup.clock setup.variables; steps = 0; bound = 0; trace = setup.trace }) }
     {
+        let Setup {
+            base,
+            pages,
+            ticks,
+            clock,
+            variables,
+            trace,
+        } = setup;
         Ok(Machine {
-            firmware: Firmware::new(alloc, setup.base, setup.pages, setup.clock, setup.variables)?,
+            firmware: Firmware::new(alloc, base, pages, ticks, clock, variables)?,
             steps: 0,
             bound: 0,
+            trace,
         })
     }
 

@@ -1,10 +1,13 @@
 //! Plain instructions, one after another.
-ghost use Rattle.std.specs.Prelude.{◌≡◌, ◌≤◌, ◌+◌, OnOk, IfOk, None};
+ghost use Rattle.std.specs.Prelude.{◌≡◌, ◌≤◌, ◌<◌, ◌+◌, ◌-◌, OnOk, IfOk, None};
+ghost use Rattle.event_queue.specs.Timers.{moment_ahead};
 ghost use Rattle.firmware_core.specs.declared.happened.Happened.TheVariants as happens;
 ghost use Rattle.firmware_core.specs.Turns.{slot_at, trapped, instruction_turn};
-ghost use Rattle.firmware_core.specs.Jobs.{next_said};
-ghost use Rattle.firmware_core.specs.Views.{turn_by};
+ghost use Rattle.firmware_core.specs.Frames.{Quiet};
+ghost use Rattle.firmware_core.specs.Jobs.{SilentlyTo};
+ghost use Rattle.firmware_core.specs.Views.{turn_by, potential};
 
+use crate::firmware::Firmware;
 use crate::happened::Halt;
 use crate::machine::Machine;
 use record_text::Cause;
@@ -28,16 +31,42 @@ fn halt_by(trap: Trap, pc: u64) -> Halt
     Halt { cause, pc, at }
 }
 
+impl Firmware {
+    /// How many units of time there surely are before the next tick.
+    fn units_to_tick(&self) -> u64
+        ensures { 0 < result → self.now.time + result ≤ moment_ahead self.now.events }
+    {
+        match self.events.tick_moment() {
+            Some(moment) => moment.saturating_sub(self.time),
+            None => u64::MAX - self.time,
+        }
+    }
+}
+
 impl Machine {
-    /// Carries out instructions up to a number of steps, as long as no service comes. Gives the halt of one that ends the
-    /// run, which isn't counted.
+    /// The number of steps up to which neither a tick nor a notification comes, at most the bound.
+    pub(crate) fn quiet_end(&self) -> u64
+        ensures bound { result ≤ self.now.bound }
+        ensures quiet { self.now.steps < result → Quiet self.now.firmware (result - self.now.steps) }
+    {
+        self.whole();
+        if self.firmware.has_notice() {
+            return self.steps;
+        }
+        let end = self.steps.saturating_add(self.firmware.units_to_tick());
+        end.min(self.bound)
+    }
+
+    /// Carries out instructions up to a number of steps, up to which neither a tick nor a notification comes, as long as no
+    /// service comes. Gives the halt of one that ends the run, which isn't counted.
     #[inline(never)]
     pub(crate) fn run_plain(&mut self, end: u64) -> Result<Option<Halt>, AllocError>
-        requires { end ≤ self.old.bound }
-        ensures said { OnOk result (next_said self.new ≡ next_said self.old) }
+        requires end { end ≤ self.old.bound }
+        requires quiet { self.old.steps < end → Quiet self.old.firmware (end - self.old.steps) }
+        ensures silent { OnOk result (SilentlyTo self.old self.new) }
         ensures one { end ≡ self.old.steps + 1 → slot_at self.old.firmware ≡ None → IfOk result (λ halt. turn_by halt self.new ≡ instruction_turn self.old) }
         ensures bound { self.new.bound ≡ self.old.bound }
-        ensures steps { self.old.steps ≤ self.new.steps }
+        ensures nearer { OnOk result (potential self.new ≤ potential self.old) }
     {
         self.whole();
         for step in self.steps..end {

@@ -1,8 +1,8 @@
 //! The services of the firmware, by slot.
 ghost use Rattle.std.specs.Prelude.{◌≡◌};
-ghost use Rattle.firmware_core.specs.Services.{service_of};
+ghost use Rattle.firmware_core.specs.Slots.{service_of};
 
-/// The services on memory, those of the console, and the return.
+/// The services on memory, those of the console, the reset, and the return.
 #[derive(Clone, Copy, Debug, PartialEq, Eq, Drop)]
 pub enum Service {
     AllocatePages,
@@ -18,14 +18,16 @@ pub enum Service {
     SetMode,
     /// What changes a screen alone: Reset, SetAttribute, ClearScreen, SetCursorPosition, EnableCursor.
     Screen,
-    /// The return of the image that runs.
+    /// ResetSystem.
+    Reset,
+    /// The return of what runs.
     Return,
     /// A service that isn't built.
     Unbuilt,
 }
 
 /// The service of a slot.
-#[tactic(auto, unfolding(crate::specs::Services::service_of))]
+#[tactic(auto, unfolding(crate::specs::Slots::service_of))]
 pub(crate) fn service_of(slot: u8) -> Service
     ensures { result ≡ service_of slot }
 {
@@ -46,6 +48,7 @@ pub(crate) fn service_of(slot: u8) -> Service
         64 => Service::Screen,
         65 => Service::Screen,
         66 => Service::Screen,
+        54 => Service::Reset,
         67 => Service::Return,
         _ => Service::Unbuilt,
     }

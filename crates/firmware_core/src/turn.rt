@@ -1,6 +1,8 @@
 //! One turn of the machine.
 ghost use Rattle.std.specs.Prelude.{◌≡◌, ◌<◌, None, IfOk};
-ghost use Rattle.firmware_core.specs.Turns.{turn_of, slot_at, service_turn, instruction_turn, comes_to, halted, counted};
+ghost use Rattle.firmware_core.specs.Frames.{Quiet};
+ghost use Rattle.firmware_core.specs.Turns.{turn_of, by_next, counted_next, slot_at, service_turn, instruction_turn, told, comes_to, halted, counted};
+ghost use Rattle.firmware_core.specs.Views.{NoticeTurned};
 
 use crate::conclusion::Conclusion;
 use crate::happened::{Halt, Happened};
@@ -26,21 +28,36 @@ impl Machine {
         self.steps += 1;
     }
 
-    /// Gives what a service called at a program counter came to.
-    fn conclude(&mut self, pc: u64, conclusion: Conclusion) -> Happened
+    /// Tells the answer of a service, where that is asked for.
+    fn tell(&self, slot: u8, a0: u64) -> Happened
+        ensures { result ≡ told self.now slot a0 }
+    {
+        if self.trace {
+            Happened::Said(Line::Svc { slot, h0: a0 })
+        } else {
+            Happened::Turned
+        }
+    }
+
+    /// Gives what a service called at a slot and a program counter came to.
+    fn conclude(&mut self, slot: u8, pc: u64, conclusion: Conclusion) -> Happened
         requires { self.old.steps < self.old.bound }
-        ensures { record { happened = result; state = self.new } ≡ comes_to pc self.old conclusion self.old.firmware }
+        ensures { record { happened = result; state = self.new } ≡ comes_to slot pc self.old conclusion self.old.firmware }
     {
         match conclusion {
             Conclusion::Answers(a0) => {
                 self.firmware.answer(a0);
                 self.count();
-                Happened::Turned
+                self.tell(slot, a0)
             }
             Conclusion::Prints(text, a0) => {
                 self.firmware.answer(a0);
                 self.count();
                 Happened::Said(Line::Console { text })
+            }
+            Conclusion::Continues => {
+                self.count();
+                Happened::Turned
             }
             Conclusion::Leaves(value) => {
                 self.count();
@@ -49,6 +66,7 @@ impl Machine {
                     steps: self.steps,
                 }
             }
+            Conclusion::Resets(kind, status) => Happened::Reset { kind, status },
             Conclusion::Halts(cause) => halted(cause, pc, 0),
         }
     }
@@ -61,13 +79,14 @@ impl Machine {
     {
         let pc = self.firmware.pc();
         let conclusion = self.firmware.serve_slot(alloc, slot)?;
-        Ok(self.conclude(pc, conclusion))
+        Ok(self.conclude(slot, pc, conclusion))
     }
 
     /// The instruction at the program counter.
     fn instruction_turn(&mut self) -> Result<Happened, AllocError>
         requires bound { self.old.steps < self.old.bound }
         requires slot { slot_at self.old.firmware ≡ None }
+        requires quiet { Quiet self.old.firmware 1 }
         ensures { IfOk result (λ h. record { happened = h; state = self.new } ≡ instruction_turn self.old) }
     {
         match self.run_plain(self.steps + 1) {
@@ -76,20 +95,52 @@ impl Machine {
             Err(_) => Err(AllocError),
         }
     }
+
+    /// The start of the notification that comes next, if one comes.
+    fn notice_turn(&mut self) -> Result<Option<Happened>, AllocError>
+        ensures { IfOk result (λ h. NoticeTurned h self.old self.new) }
+    {
+        if self.firmware.has_notice() && self.firmware.is_full() {
+            return Ok(Some(halted(Cause::Depth, self.firmware.pc(), 0)));
+        }
+        match self.firmware.take_notice() {
+            Some(notify) => {
+                self.firmware.notify(notify)?;
+                Ok(Some(Happened::Turned))
+            }
+            None => Ok(None),
+        }
+    }
+
+    /// A service or an instruction, unless the bound is reached.
+    fn counted_turn(&mut self, alloc: Global) -> Result<Happened, AllocError>
+        requires { Quiet self.old.firmware 1 }
+        ensures { IfOk result (λ h. record { happened = h; state = self.new } ≡ by_next (counted_next self.old) self.old) }
+    {
+        self.whole();
+        if self.steps == self.bound {
+            return Ok(halted(Cause::Bound, self.firmware.pc(), 0));
+        }
+        match self.firmware.slot_at() {
+            Some(slot) => self.service_turn(alloc, slot),
+            None => self.instruction_turn(),
+        }
+    }
 }
 
-/// Makes one turn: a service where the program counter is at its slot, else an instruction, unless the bound of the job
-/// is reached. A turn that halts leaves the parts as they were. After want of memory the machine may only be dropped.
-#[tactic(auto, unfolding(crate::specs::Turns::turn_of, crate::specs::Turns::next_turn))]
+/// Makes one turn: a tick where one is due, else the start of the notification that comes next, else a service where the program
+/// counter is at its slot, else an instruction, unless the bound of the job is reached. A turn that halts leaves the parts as they
+/// were. After want of memory the machine may only be dropped.
 pub fn step_machine(alloc: Global, machine: &mut Machine) -> Result<Happened, AllocError>
     ensures { IfOk result (λ h. record { happened = h; state = machine.new } ≡ turn_of machine.old) }
 {
-    machine.whole();
-    if machine.steps == machine.bound {
-        return Ok(halted(Cause::Bound, machine.firmware.pc(), 0));
+    if machine.firmware.tick_is_due() {
+        machine.firmware.tick();
+        return Ok(Happened::Turned);
     }
-    match machine.firmware.slot_at() {
-        Some(slot) => machine.service_turn(alloc, slot),
-        None => machine.instruction_turn(),
+    match machine.notice_turn() {
+        Ok(Some(happened)) => Ok(happened),
+        Ok(None) => machine.counted_turn(alloc),
+        Err(_) => Err(AllocError),
     }
 }

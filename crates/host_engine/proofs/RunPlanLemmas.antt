@@ -4,7 +4,7 @@ use Rattle.std.specs.Prelude.{string_bytes}
 use Rattle.uh_base.specs.Told.{FileMap}
 use Rattle.host_script.specs.Faults.{Place}
 use Rattle.host_script.specs.Plain.{Plain}
-use Rattle.host_script.specs.Script.{script_in}
+use Rattle.host_engine.specs.Unbuilt.{runnable}
 use Rattle.host_engine.specs.declared.assembly.Unassembled.{Unassembled}
 use Rattle.host_engine.specs.declared.refusal.Refusal.TheVariants as why
 use Rattle.host_engine.specs.Commands.{script_file, script_plan, texts_judged, run_answer, place_text, plan_of}
@@ -18,18 +18,18 @@ use Rattle.host_engine.proofs.PlanLemmas.{here, onward, trans}
 use Rattle.host_engine.proofs.GivesLemmas.{not_assembled}
 use Rattle.host_engine.proofs.InputLemmas.{takes}
 
-pub script_had : (told : Option FileMap) (name bytes : List ℕ) (script : Plain) → IsFile told (script_file name) bytes → script_in bytes ≡ Ok script → Leads told (plan_of (Run name)) (script_plan (Ok script))
+pub script_had : (told : Option FileMap) (name bytes : List ℕ) (script : Plain) → IsFile told (script_file name) bytes → runnable bytes ≡ Ok script → Leads told (plan_of (Run name)) (script_plan (Ok script))
 script_had told name bytes script is says =
-    onward told (script_file name) (λ document. script_plan (script_in document)) bytes (script_plan (Ok script)) is
+    onward told (script_file name) (λ document. script_plan (runnable document)) bytes (script_plan (Ok script)) is
     (subst (λ (r : Result Plain Place). Leads told (script_plan r) (script_plan (Ok script))) (sym says) (here told (script_plan (Ok script))))
 
-pub script_refused : (told : Option FileMap) (name bytes : List ℕ) (place : Place) (text : _) → IsFile told (script_file name) bytes → script_in bytes ≡ Err place → string_bytes text ≡ place_text place → (told' : Option FileMap) (f f' l l' : ℕ) (out : Option (List ℕ)) (p : ℕ)
+pub script_refused : (told : Option FileMap) (name bytes : List ℕ) (place : Place) (text : _) → IsFile told (script_file name) bytes → runnable bytes ≡ Err place → string_bytes text ≡ place_text place → (told' : Option FileMap) (f f' l l' : ℕ) (out : Option (List ℕ)) (p : ℕ)
     → CommandGives (plan_of (Run name)) (Err (why.Script text)) (outside told f l out p) (outside told' f' l' out p)
 script_refused told name bytes place text is says words told' f f' l l' out p =
-    let over : Leads told (script_plan (script_in bytes)) (Over (ScriptRefused (string_bytes text))) =
+    let over : Leads told (script_plan (runnable bytes)) (Over (ScriptRefused (string_bytes text))) =
     subst (λ (r : Result Plain Place). Leads told (script_plan r) (Over (ScriptRefused (string_bytes text)))) (sym says)
     (subst (λ (t : List ℕ). Leads told (Over (ScriptRefused (place_text place))) (Over (ScriptRefused t))) (sym words) (here told (Over (ScriptRefused (place_text place))))) in
-    (onward told (script_file name) (λ document. script_plan (script_in document)) bytes (Over (ScriptRefused (string_bytes text))) is over, refl)
+    (onward told (script_file name) (λ document. script_plan (runnable document)) bytes (Over (ScriptRefused (string_bytes text))) is over, refl)
 
 -- the script that was had, and then its images
 pub run_leads : (plan mid rest : Plan) (told now : Option FileMap) (f g l m : ℕ) → Onward told now f g l m → Leads told plan mid → Leads now mid rest → Leads told plan rest

@@ -1,6 +1,6 @@
 -- Steps under way: what was put, and what is still to come.
 use Rattle.memory_map.specs.declared.descriptor.Descriptor.{Descriptor}
-use Rattle.std.proofs.Common.{◌≡◌, ℕ, suc, arith, map, List, [], ◌∷◌, ◌++◌, Option, Result, Err, Bool, true, false, length, get_or, drop, ◌<◌, ◌≤◌, ◌+◌, refl, sym, ap, subst, ◌∙◌, append_assoc, append-nil}
+use Rattle.std.proofs.Common.{◌≡◌, ◌≢◌, ℕ, suc, arith, map, List, [], ◌∷◌, ◌++◌, Option, Result, Err, Bool, true, false, length, get_or, drop, ◌<◌, ◌≤◌, ◌+◌, refl, sym, ap, subst, ◌∙◌, append_assoc, append-nil}
 use Rattle.std.proofs.lemmas.List.{drop_more, drop_all, length-replicate}
 use Rattle.record_text.specs.declared.line.Line.{Line}
 use Rattle.record_text.specs.declared.line.Line.TheVariants as lines
@@ -8,6 +8,8 @@ use Rattle.host_script.specs.declared.script.Step.{Step}
 use Rattle.uh_base.specs.Told.{grown, GrownByPart}
 use Rattle.firmware_core.specs.declared.happened.JobEnd.{JobEnd}
 use Rattle.firmware_core.specs.Turns.{State}
+use Rattle.host_engine.specs.declared.course.Course.{Course}
+use Rattle.host_engine.specs.declared.course.Course.TheVariants.{GoesOn, Resets, Halts}
 use Rattle.host_engine.specs.Inputs.{Inputs}
 use Rattle.host_script.specs.Plain.{Plain}
 use Rattle.host_engine.specs.declared.job.Stop.{Stop}
@@ -15,7 +17,7 @@ use Rattle.page_alloc.specs.Pages.{PageList}
 use Rattle.memory_map.specs.Map.{map_of}
 use Rattle.firmware_core.specs.Jobs.{Job, job_of}
 use Rattle.host_engine.specs.Jobs.{Ended, Puts, line_bytes, bytes_of}
-use Rattle.host_engine.specs.ScriptRuns.{row_of, map_lines, Running, Run, Ran, Stepped, Made, then_run, step_made, run_from, run_of, at_opening, job_over, last_line}
+use Rattle.host_engine.specs.ScriptRuns.{row_of, map_lines, Running, Run, Ran, Stepped, Made, then_by, then_run, step_made, run_from, run_of, at_opening, job_over, last_line}
 use Rattle.host_engine.proofs.PutLemmas.{part_behind, grown-grown, both, first}
 use Rattle.host_engine.proofs.LineLemmas.{grown-nil, bytes_of-last, put_more, part_more}
 
@@ -100,28 +102,34 @@ pub record SoFar (whole rest : Run) (old now : Option (List ℕ)) : Type 0 where
 pub begins : (run : Run) (told : Option (List ℕ)) → SoFar run run told told
 begins run told = record { before = []; same = refl; put = grown-nil told }
 
-pub opened_for : (script : Plain) (r : Running) (base pages images : ℕ) → r ≡ at_opening base pages images → base ≡ script.ram_base → pages ≡ script.ram_pages → images ≡ length script.image → r ≡ at_opening script.ram_base script.ram_pages (length script.image)
-opened_for script r base pages images e b p n = e ∙ ap (λ k. at_opening k pages images) b ∙ ap (λ k. at_opening script.ram_base k images) p ∙ ap (λ k. at_opening script.ram_base script.ram_pages k) n
-
-pub handles_opened : (r : Running) (base pages images : ℕ) → r ≡ at_opening base pages images → length r.handles ≡ images
-handles_opened r base pages images e = ap (λ (x : Running). length x.handles) e ∙ length-replicate {A = ℕ} images 0
+pub handles_opened : (script : Plain) (r : Running) → r ≡ at_opening script → length r.handles ≡ length script.image
+handles_opened script r e = ap (λ (x : Running). length x.handles) e ∙ length-replicate {A = ℕ} (length script.image) 0
 
 -- before the first step
-pub opens : (script : Plain) (inputs : Inputs) (r : Running) (steps : List Step) (told : Option (List ℕ)) → r ≡ at_opening script.ram_base script.ram_pages (length script.image) → steps ≡ script.step → SoFar (run_of script inputs) (run_from script inputs r steps) told told
+pub opens : (script : Plain) (inputs : Inputs) (r : Running) (steps : List Step) (told : Option (List ℕ)) → r ≡ at_opening script → steps ≡ script.step → SoFar (run_of script inputs) (run_from script inputs r steps) told told
 unfolding run_of
 opens script inputs r steps told at_start same =
     subst (λ (x : Running). SoFar (run_of script inputs) (run_from script inputs x steps) told told) (sym at_start)
-    (subst (λ (ss : List Step). SoFar (run_of script inputs) (run_from script inputs (at_opening script.ram_base script.ram_pages (length script.image)) ss) told told) (sym same) (begins (run_of script inputs) told))
+    (subst (λ (ss : List Step). SoFar (run_of script inputs) (run_from script inputs (at_opening script) ss) told told) (sym same) (begins (run_of script inputs) told))
 
-goes : (step : Stepped) (rest : Run) → false ≡ step.halted → then_run step rest ≡ behind step.lines rest
+goes : (step : Stepped) (rest : Run) → GoesOn ≡ step.course → then_run step rest ≡ behind step.lines rest
 goes step rest h = let back = sym h in rw back refl
 
-halts : (step : Stepped) (rest : Run) → true ≡ step.halted → then_run step rest ≡ record { lines = step.lines; halted = true }
-halts step rest h = let back = sym h in rw back refl
+-- whether a run that is over is halted
+abbrev pub is_halted : Course → Bool
+is_halted GoesOn = false
+is_halted Resets = false
+is_halted Halts = true
 
-first_lines : (step : Stepped) (rest : Run) (b : Bool) → step.halted ≡ b → (more : List Line) × ((then_run step rest).lines ≡ step.lines ++ more)
-first_lines step rest true h = ([], ap (λ (x : Run). x.lines) (halts step rest (sym h)) ∙ sym (append-nil step.lines))
-first_lines step rest false h = (rest.lines, ap (λ (x : Run). x.lines) (goes step rest (sym h)))
+over : (course : Course) → course ≢ GoesOn → (lines : List Line) (rest : Run) → then_by course lines rest ≡ record { lines = lines; halted = is_halted course }
+over GoesOn ends lines rest = absurd (ends refl)
+over Resets ends lines rest = refl
+over Halts ends lines rest = refl
+
+first_lines : (course : Course) (lines : List Line) (rest : Run) → (more : List Line) × ((then_by course lines rest).lines ≡ lines ++ more)
+first_lines GoesOn lines rest = (rest.lines, refl)
+first_lines Resets lines rest = ([], sym (append-nil lines))
+first_lines Halts lines rest = ([], sym (append-nil lines))
 
 module _ (script : Plain) (inputs : Inputs) (whole : Run) (steps : List Step) (i : ℕ) (step : Step) (r : Running) (old now new : Option (List ℕ)) (below : i < length steps) (is : step ≡ get_or steps i step) (so_far : SoFar whole (run_from script inputs r (drop i steps)) old now) where
   one : whole ≡ behind so_far.before (then_run (step_made script inputs step r) (run_from script inputs (step_made script inputs step r).running (drop (i + 1) steps)))
@@ -130,24 +138,26 @@ module _ (script : Plain) (inputs : Inputs) (whole : Run) (steps : List Step) (i
       let cut : drop i steps ≡ step ∷ drop (i + 1) steps = subst (λ (x : Step). drop i steps ≡ x ∷ drop (i + 1) steps) (sym is) (drop_more steps i step below) in
       so_far.same ∙ ap (λ (ss : List Step). behind so_far.before (run_from script inputs r ss)) cut
 
-  pub goes_on : (to : Running) → Made (step_made script inputs step r) false to → new ≡ grown now (bytes_of (step_made script inputs step r).lines) → SoFar whole (run_from script inputs to (drop (i + 1) steps)) old new
+  pub goes_on : (to : Running) → Made (step_made script inputs step r) GoesOn to → new ≡ grown now (bytes_of (step_made script inputs step r).lines) → SoFar whole (run_from script inputs to (drop (i + 1) steps)) old new
   goes_on to made put =
       let rest = run_from script inputs (step_made script inputs step r).running (drop (i + 1) steps) in
       subst (λ (x : Running). SoFar whole (run_from script inputs x (drop (i + 1) steps)) old new) (sym made.is_running) (record {
         before = so_far.before ++ (step_made script inputs step r).lines;
-        same = one ∙ ap (behind so_far.before) (goes (step_made script inputs step r) rest made.is_halted) ∙ ap (λ (ls : List Line). record { lines = ls; halted = rest.halted }) (sym (append_assoc so_far.before (step_made script inputs step r).lines rest.lines));
+        same = one ∙ ap (behind so_far.before) (goes (step_made script inputs step r) rest made.is_course) ∙ ap (λ (ls : List Line). record { lines = ls; halted = rest.halted }) (sym (append_assoc so_far.before (step_made script inputs step r).lines rest.lines));
         put = put_more old now new so_far.before (step_made script inputs step r).lines so_far.put put;
       })
 
-  pub halts_here : (to : Running) → Made (step_made script inputs step r) true to → new ≡ grown now (bytes_of (step_made script inputs step r).lines) → Ran whole true old new
-  halts_here to made put =
+  pub ends_here : (course : Course) → course ≢ GoesOn → (to : Running) → Made (step_made script inputs step r) course to → new ≡ grown now (bytes_of (step_made script inputs step r).lines) → Ran whole (is_halted course) old new
+  ends_here course loud to made put =
       let rest = run_from script inputs (step_made script inputs step r).running (drop (i + 1) steps) in
-      let w = one ∙ ap (behind so_far.before) (halts (step_made script inputs step r) rest made.is_halted) in
+      let is : then_run (step_made script inputs step r) rest ≡ record { lines = (step_made script inputs step r).lines; halted = is_halted course } =
+      ap (λ (c : Course). then_by c (step_made script inputs step r).lines rest) (sym made.is_course) ∙ over course loud (step_made script inputs step r).lines rest in
+      let w = one ∙ ap (behind so_far.before) is in
       record { is_halted = sym (ap (λ (x : Run). x.halted) w); put = put_more old now new so_far.before (step_made script inputs step r).lines so_far.put put ∙ ap (λ (x : Run). grown old (bytes_of x.lines)) (sym w) }
 
   pub stops_here : GrownByPart now (bytes_of (step_made script inputs step r).lines) new → GrownByPart old (bytes_of whole.lines) new
   stops_here p =
-      let f = first_lines (step_made script inputs step r) (run_from script inputs (step_made script inputs step r).running (drop (i + 1) steps)) (step_made script inputs step r).halted refl in
+      let f = first_lines (step_made script inputs step r).course (step_made script inputs step r).lines (run_from script inputs (step_made script inputs step r).running (drop (i + 1) steps)) in
       part_more old now new so_far.before (step_made script inputs step r).lines f.0 whole.lines so_far.put (ap (λ (x : Run). x.lines) one ∙ ap (λ (ls : List Line). so_far.before ++ ls) f.1) p
 
 module _ (script : Plain) (inputs : Inputs) (whole : Run) (steps : List Step) (i : ℕ) (r : Running) (old now new : Option (List ℕ)) (past : length steps ≤ i) (so_far : SoFar whole (run_from script inputs r (drop i steps)) old now) where

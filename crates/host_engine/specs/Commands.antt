@@ -8,7 +8,6 @@ use Rattle.image_dump.specs.Reports.{Report, image_report}
 use Rattle.image_dump.specs.Listings.{list_report}
 use Rattle.host_script.specs.Faults.{Place, kind_name}
 use Rattle.host_script.specs.Plain.{Plain}
-use Rattle.host_script.specs.Script.{script_in}
 use Rattle.host_script.specs.declared.script.ImageSpec.{ImageSpec}
 use Rattle.host_script.specs.declared.script.Origin.{Origin}
 use Rattle.host_script.specs.declared.script.Origin.TheVariants.{File, Text}
@@ -20,6 +19,7 @@ use Rattle.host_engine.specs.Lines.{flat_text}
 use Rattle.host_engine.specs.Plans.{Wanted, Fixed, AtOnce, ByLines, Answer, Prints, ScriptRefused, NotAssembled, Plan, Reads, Over}
 use Rattle.host_engine.specs.ScriptRuns.{Run, run_of}
 use Rattle.host_engine.specs.Texts.{help_text, version_text}
+use Rattle.host_engine.specs.Unbuilt.{runnable}
 use Rattle.host_engine.specs.Words as words
 use Rattle.host_engine.specs.Words.{Command}
 
@@ -85,4 +85,4 @@ plan_of (words.Flat name bound) = Reads (code_file name) (λ file. Over (flat_an
 plan_of (words.Build name) = Reads (code_file name) (λ file. Over (build_answer (in_words name (assembled_file file))))
 plan_of (words.Image name) = Reads (code_file name) (λ file. Over (report_answer (image_report file)))
 plan_of (words.Listing name) = Reads (code_file name) (λ file. Over (report_answer (list_report file)))
-plan_of (words.Run name) = Reads (script_file name) (λ document. script_plan (script_in document))
+plan_of (words.Run name) = Reads (script_file name) (λ document. script_plan (runnable document))

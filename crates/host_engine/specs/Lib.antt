@@ -12,5 +12,6 @@ pub mod Plans
 pub mod ScriptRuns
 pub mod Stages
 pub mod Texts
+pub mod Unbuilt
 pub mod Views
 pub mod Words

@@ -1,5 +1,5 @@
 -- The run of a script: the lines of its steps, in order.
-use Rattle.std.specs.Prelude.{◌≡◌, ℕ, List, [], ◌∷◌, ◌++◌, ◌==◌, length, map, replicate, slice_index_or, slice_set, Bool, true, false, Option, pos, if◌then◌else◌}
+use Rattle.std.specs.Prelude.{◌≡◌, ℕ, List, [], ◌∷◌, ◌++◌, ◌==◌, length, map, replicate, slice_index_or, slice_set, Bool, true, false, Option, Some, None, pos, if◌then◌else◌}
 use Rattle.std.specs.List.{position_or_len}
 use Rattle.std.specs.Str.{bytes_eq}
 use Rattle.uh_base.specs.Statuses.{invalid_parameter}
@@ -14,16 +14,18 @@ use Rattle.host_script.specs.declared.script.Step.TheVariants.{Load, Start, MemM
 use Rattle.page_alloc.specs.Pages.{PageList}
 use Rattle.memory_map.specs.declared.descriptor.Descriptor.{Descriptor}
 use Rattle.memory_map.specs.Map.{map_of}
-use Rattle.time_service.specs.declared.efi_time.EfiTime.{EfiTime}
-use Rattle.time_service.specs.Clocks.{set_to}
+use Rattle.time_service.specs.Clocks.{ClockState}
+use Rattle.time_service.specs.Texts.{clock_of}
 use Rattle.firmware_core.specs.declared.happened.JobEnd.{JobEnd}
-use Rattle.firmware_core.specs.declared.happened.JobEnd.TheVariants.{Left, Halted}
+use Rattle.firmware_core.specs.declared.happened.JobEnd.TheVariants.{Left, Reset, Halted}
 use Rattle.firmware_core.specs.declared.job.Job.TheVariants as jobs
 use Rattle.firmware_core.specs.Opening.{opened}
 use Rattle.firmware_core.specs.Turns.{State}
 use Rattle.firmware_core.specs.Jobs.{Begun, begun, Job, job_of}
 use Rattle.firmware_core.specs.Loads.{LoadDone, loaded}
 use Rattle.host_engine.specs.Inputs.{Inputs}
+use Rattle.host_engine.specs.declared.course.Course.{Course}
+use Rattle.host_engine.specs.declared.course.Course.TheVariants.{GoesOn, Resets, Halts}
 use Rattle.host_engine.specs.declared.script_run.Outcome.{Outcome}
 use Rattle.host_engine.specs.declared.script_run.Outcome.TheVariants as outcomes
 use Rattle.host_engine.specs.Jobs.{bytes_of}
@@ -41,10 +43,10 @@ pub record Running : Type 0 where
   pub machine : State
   pub handles : List ℕ
 
--- a step's lines, whether the run ends with it, and the run behind it
+-- a step's lines, whether and how the run ends with it, and the run behind it
 pub record Stepped : Type 0 where
   pub lines : List Line
-  pub halted : Bool
+  pub course : Course
   pub running : Running
 
 -- ---- load
@@ -56,7 +58,7 @@ with_handle handles place handle = if handle == 0 then handles else slice_set ha
 abbrev pub load_comes_to : List ℕ → ℕ → List ℕ → LoadDone → Stepped
 load_comes_to name place handles done = record {
   lines = lines.Load name done.status done.base done.pages ∷ [];
-  halted = false;
+  course = GoesOn;
   running = record { machine = done.state; handles = with_handle handles place done.handle };
 }
 
@@ -69,20 +71,23 @@ load_made name place file r = load_comes_to name place r.handles (loaded r.machi
 -- the last line of a job
 abbrev pub last_line : List ℕ → JobEnd → Line
 last_line name (Left value steps) = lines.Start name value steps
+last_line name (Reset kind status) = lines.Reset kind status
 last_line name (Halted halt) = lines.Halt halt.cause halt.pc halt.at
 
-abbrev pub is_halt : JobEnd → Bool
-is_halt (Left value steps) = false
-is_halt (Halted halt) = true
+-- A reset ends the run, and so does a halt.
+abbrev pub course_of : JobEnd → Course
+course_of (Left value steps) = GoesOn
+course_of (Reset kind status) = Resets
+course_of (Halted halt) = Halts
 
 abbrev pub job_over : List ℕ → List ℕ → Job → Stepped
-job_over name handles job = record { lines = job.lines ++ last_line name job.end ∷ []; halted = is_halt job.end; running = record { machine = job.state; handles = handles } }
+job_over name handles job = record { lines = job.lines ++ last_line name job.end ∷ []; course = course_of job.end; running = record { machine = job.state; handles = handles } }
 
 -- An image that can't begin is refused.
 abbrev pub start_comes_to : List ℕ → Running → Begun → Stepped
 start_comes_to name r start =
     if start.begins then job_over name r.handles (job_of start.state)
-    else record { lines = lines.Start name invalid_parameter 0 ∷ []; halted = false; running = record { machine = start.state; handles = r.handles } }
+    else record { lines = lines.Start name invalid_parameter 0 ∷ []; course = GoesOn; running = record { machine = start.state; handles = r.handles } }
 
 -- the handle of the image that was loaded last at a place, 0 where none was
 abbrev pub handle_at : List ℕ → ℕ → ℕ
@@ -102,7 +107,7 @@ unfoldable pub map_lines : PageList → List Line
 map_lines pages = lines.MemmapKey pages.key ∷ map row_of (map_of pages)
 
 abbrev pub map_made : Running → Stepped
-map_made r = record { lines = map_lines r.machine.firmware.runtime.pages; halted = false; running = r }
+map_made r = record { lines = map_lines r.machine.firmware.runtime.pages; course = GoesOn; running = r }
 
 -- ---- the run
 
@@ -116,31 +121,37 @@ pub record Run : Type 0 where
   pub lines : List Line
   pub halted : Bool
 
+abbrev pub then_by : Course → List Line → Run → Run
+then_by GoesOn lines rest = record { lines = lines ++ rest.lines; halted = rest.halted }
+then_by Resets lines rest = record { lines = lines; halted = false }
+then_by Halts lines rest = record { lines = lines; halted = true }
+
 abbrev pub then_run : Stepped → Run → Run
-then_run step rest = if step.halted then record { lines = step.lines; halted = true } else record { lines = step.lines ++ rest.lines; halted = rest.halted }
+then_run step rest = then_by step.course step.lines rest
 
 unfoldable pub run_from : Plain → Inputs → Running → List Step → Run
 run_from script inputs r [] = record { lines = lines.End ∷ []; halted = false }
 run_from script inputs r (step ∷ steps) = then_run (step_made script inputs step r) (run_from script inputs (step_made script inputs step r).running steps)
 
--- The clock begins at 2024-01-01T00:00:00, in no time zone.
-abbrev pub opening_time : EfiTime
-opening_time = record { year = 2024; month = 1; day = 1; hour = 0; minute = 0; second = 0; nanosecond = 0; time_zone = pos 2047; daylight = 0 }
+-- The clock begins at the time of the script; every script's time sets one.
+abbrev pub clock_set : Option ClockState → ClockState
+clock_set (Some clock) = clock
+clock_set None = record { day = 0; nanosecond = 0; time_zone = pos 2047; daylight = 0; set_at = 0 }
 
--- RAM of so many pages from an address on, no variable, and none of so many images loaded
-abbrev pub at_opening : ℕ → ℕ → ℕ → Running
-at_opening ram_base ram_pages images = record {
-  machine = record { firmware = opened ram_base ram_pages (set_to 0 opening_time) []; steps = 0; bound = 0 };
-  handles = replicate images 0;
+-- the machine that a script asks for, with no variable, and none of its images loaded
+abbrev pub at_opening : Plain → Running
+at_opening script = record {
+  machine = record { firmware = opened script.ram_base script.ram_pages script.ticks (clock_set (clock_of script.time)) []; steps = 0; bound = 0; trace = script.trace };
+  handles = replicate (length script.image) 0;
 }
 
 -- the run of a script over the files of its images
 unfoldable pub run_of : Plain → Inputs → Run
-run_of script inputs = run_from script inputs (at_opening script.ram_base script.ram_pages (length script.image)) script.step
+run_of script inputs = run_from script inputs (at_opening script) script.step
 
 -- A step was made so.
-pub record Made (whole : Stepped) (halted : Bool) (running : Running) : Type 0 where
-  pub is_halted : halted ≡ whole.halted
+pub record Made (whole : Stepped) (course : Course) (running : Running) : Type 0 where
+  pub is_course : course ≡ whole.course
   pub is_running : running ≡ whole.running
 
 -- A run was made so, with its lines put.

@@ -5,6 +5,7 @@ mod assembly;
 mod build;
 mod code;
 mod command;
+mod course;
 mod dump;
 mod execution;
 mod flat;
@@ -19,6 +20,7 @@ mod refusal;
 mod run;
 mod script_run;
 mod status;
+mod unbuilt;
 
 pub use code::ImageFile;
 pub use execution::execution_reaches_its_end;

@@ -15,7 +15,8 @@ use crate::inputs::{Inputs, assemble_texts, read_images};
 use crate::limits::SCRIPT_LIMIT;
 use crate::refusal::{Refusal, read_file};
 use crate::script_run::{Outcome, run_script};
-use host_script::{Script, ScriptFault, ScriptKind, read_script, scripts_keep_forms};
+use crate::unbuilt::read_runnable;
+use host_script::{Script, ScriptFault, ScriptKind};
 use std::alloc::{AllocError, Global};
 use uh_base::{Files, Sink};
 
@@ -37,8 +38,7 @@ fn script_in<F: Files>(alloc: Global, name: &str, files: &mut F) -> Result<Scrip
         Ok(file) => file,
         Err(refusal) => return Err(refusal),
     };
-    scripts_keep_forms();
-    match read_script(alloc, file.as_slice()) {
+    match read_runnable(alloc, file.as_slice()) {
         Ok(script) => Ok(script),
         Err(ScriptFault::Memory) => Err(Refusal::Memory),
         Err(ScriptFault::At { step, kind }) => match place_text(alloc, step, kind) {

@@ -7,10 +7,11 @@ ghost use Rattle.firmware_core.specs.Jobs.{job_of};
 ghost use Rattle.host_script.specs.Script.{is_ram_base};
 ghost use Rattle.host_script.specs.Forms.{IsScript, IsStep};
 ghost use Rattle.host_engine.specs.Jobs.{line_bytes, bytes_of, Puts};
-ghost use Rattle.time_service.specs.Clocks.{set_to};
-ghost use Rattle.host_engine.specs.ScriptRuns.{place_of, file_at, with_handle, handle_at, load_made, last_line, is_halt, job_over, start_made, row_of, map_lines, opening_time, step_made, run_of, at_opening, Made, RunGives};
+ghost use Rattle.time_service.specs.Texts.{clock_of};
+ghost use Rattle.host_engine.specs.ScriptRuns.{place_of, file_at, with_handle, handle_at, load_made, last_line, course_of, job_over, start_made, row_of, map_lines, clock_set, step_made, run_of, at_opening, Made, RunGives};
 
 use crate::code::ImageFile;
+use crate::course::Course;
 use crate::inputs::Inputs;
 use crate::job::{Stop, put_line, run_job, say};
 use firmware_core::{Halt, Job, JobEnd, Machine, Setup, begin, load};
@@ -20,7 +21,7 @@ use page_alloc::PageMap;
 use record_text::Line;
 use std::alloc::{AllocError, Global};
 use std::marker::Model;
-use time_service::{Clock, texts_set_clocks};
+use time_service::Clock;
 use uh_base::{EfiStatus, Sink, Text};
 use variable_store::Variables;
 
@@ -147,9 +148,9 @@ fn load_image<O: Sink>(
     file: &ImageFile,
     running: &mut Running,
     out: &mut O,
-) -> Result<bool, Stop>
+) -> Result<Course, Stop>
     requires known { place < length running.old.handles }
-    ensures made { IfOk result (λ halted. Made (load_made name.now place file.now.bytes.items running.old) halted running.new) }
+    ensures made { IfOk result (λ course. Made (load_made name.now place file.now.bytes.items running.old) course running.new) }
     ensures puts { Puts result (bytes_of (load_made name.now place file.now.bytes.items running.old).lines) (O.written out.old) (O.faults out.old) (O.written out.new) (O.faults out.new) }
     ensures many { length running.new.handles ≡ length running.old.handles }
 {
@@ -163,18 +164,19 @@ fn load_image<O: Sink>(
     };
     running.keep(place, handle);
     match put_load(alloc, name, status.0, base, pages, out) {
-        Ok(()) => Ok(false),
+        Ok(()) => Ok(Course::GoesOn),
         Err(stop) => Err(stop),
     }
 }
 
-/// Whether a job ends with a halt.
-fn is_halt(end: &JobEnd) -> bool
-    ensures { result ≡ is_halt end.now }
+/// How the run stands behind a job.
+fn course_of(end: &JobEnd) -> Course
+    ensures { result ≡ course_of end.now }
 {
     match end {
-        JobEnd::Left { .. } => false,
-        JobEnd::Halted(_) => true,
+        JobEnd::Left { .. } => Course::GoesOn,
+        JobEnd::Reset { .. } => Course::Resets,
+        JobEnd::Halted(_) => Course::Halts,
     }
 }
 
@@ -189,30 +191,31 @@ fn halt_line(halt: Halt) -> Line
     }
 }
 
-/// Puts the last line of a job; true where it is a halt.
-fn put_last<O: Sink>(alloc: Global, name: &Text, end: JobEnd, out: &mut O) -> Result<bool, Stop>
-    ensures halted { IfOk result (λ halted. halted ≡ is_halt end) }
+/// Puts the last line of a job.
+fn put_last<O: Sink>(alloc: Global, name: &Text, end: JobEnd, out: &mut O) -> Result<Course, Stop>
+    ensures course { IfOk result (λ course. course ≡ course_of end) }
     ensures puts { Puts result (line_bytes (last_line name.now end)) (O.written out.old) (O.faults out.old) (O.written out.new) (O.faults out.new) }
 {
-    let halts = is_halt(&end);
+    let course = course_of(&end);
     let put = match end {
         JobEnd::Left { value, steps } => put_start(alloc, name, value, steps, out),
+        JobEnd::Reset { kind, status } => say(alloc, Line::Reset { kind, h0: status }, out),
         JobEnd::Halted(halt) => say(alloc, halt_line(halt), out),
     };
     match put {
-        Ok(()) => Ok(halts),
+        Ok(()) => Ok(course),
         Err(stop) => Err(stop),
     }
 }
 
-/// Puts the lines of the job under way; true where the run is halted.
+/// Puts the lines of the job under way.
 fn finish_job<O: Sink>(
     alloc: Global,
     name: &Text,
     running: &mut Running,
     out: &mut O,
-) -> Result<bool, Stop>
-    ensures made { IfOk result (λ halted. Made (job_over name.now running.old.handles (job_of running.old.machine)) halted running.new) }
+) -> Result<Course, Stop>
+    ensures made { IfOk result (λ course. Made (job_over name.now running.old.handles (job_of running.old.machine)) course running.new) }
     ensures puts { Puts result (bytes_of (job_over name.now running.old.handles (job_of running.old.machine)).lines) (O.written out.old) (O.faults out.old) (O.written out.new) (O.faults out.new) }
     ensures handles { running.new.handles ≡ running.old.handles }
 {
@@ -232,9 +235,9 @@ fn start<O: Sink>(
     bound: u64,
     running: &mut Running,
     out: &mut O,
-) -> Result<bool, Stop>
+) -> Result<Course, Stop>
     requires known { place < length running.old.handles }
-    ensures made { IfOk result (λ halted. Made (start_made name.now place bound running.old) halted running.new) }
+    ensures made { IfOk result (λ course. Made (start_made name.now place bound running.old) course running.new) }
     ensures puts { Puts result (bytes_of (start_made name.now place bound running.old).lines) (O.written out.old) (O.faults out.old) (O.written out.new) (O.faults out.new) }
     ensures many { length running.new.handles ≡ length running.old.handles }
 {
@@ -242,11 +245,13 @@ fn start<O: Sink>(
         handle: running.handle_at(place),
         bound,
     };
-    if begin(&mut running.machine, &job) {
-        return finish_job(alloc, name, running, out);
+    match begin(&mut running.machine, &job) {
+        Ok(true) => return finish_job(alloc, name, running, out),
+        Ok(false) => {}
+        Err(_) => return Err(Stop::Memory),
     }
     match put_start(alloc, name, EfiStatus::INVALID_PARAMETER.0, 0, out) {
-        Ok(()) => Ok(false),
+        Ok(()) => Ok(Course::GoesOn),
         Err(stop) => Err(stop),
     }
 }
@@ -292,7 +297,7 @@ fn put_map<O: Sink>(alloc: Global, pages: &PageMap, out: &mut O) -> Result<(), S
     put_rows(alloc, &mut rows, out)
 }
 
-/// Makes a step and puts its lines; true where the run is halted.
+/// Makes a step and puts its lines.
 fn make_step<O: Sink>(
     alloc: Global,
     script: &Script,
@@ -300,11 +305,11 @@ fn make_step<O: Sink>(
     step: &Step,
     running: &mut Running,
     out: &mut O,
-) -> Result<bool, Stop>
+) -> Result<Course, Stop>
     requires known { IsStep script.now.image step.now }
     requires many { length inputs.now.images ≡ length script.now.image }
     requires handles { length running.old.handles ≡ length script.now.image }
-    ensures made { IfOk result (λ halted. Made (step_made script.now inputs.now step.now running.old) halted running.new) }
+    ensures made { IfOk result (λ course. Made (step_made script.now inputs.now step.now running.old) course running.new) }
     ensures puts { Puts result (bytes_of (step_made script.now inputs.now step.now running.old).lines) (O.written out.old) (O.faults out.old) (O.written out.new) (O.faults out.new) }
     ensures handles { length running.new.handles ≡ length running.old.handles }
 {
@@ -319,36 +324,38 @@ fn make_step<O: Sink>(
             start(alloc, image, place, *bound, running, out)
         }
         Step::MemMap => match put_map(alloc, running.machine.pages(), out) {
-            Ok(()) => Ok(false),
+            Ok(()) => Ok(Course::GoesOn),
             Err(stop) => Err(stop),
         },
     }
 }
 
-/// The clock at opening.
-fn opening_clock() -> Clock
-    ensures clock { result ≡ set_to 0 opening_time }
+/// The clock at opening: at the time of the script.
+fn opening_clock(script: &Script) -> Clock
+    requires { IsScript script.now }
+    ensures clock { result ≡ clock_set (clock_of script.now.time) }
     ensures set_at { result.set_at ≡ 0 }
 {
-    texts_set_clocks();
-    match Clock::at("2024-01-01T00:00:00") {
+    match Clock::at(script.time.as_str()) {
         Some(clock) => clock,
         None => unreachable!(),
     }
 }
 
 /// The run at opening.
-fn open(alloc: Global, ram_base: u64, ram_pages: u32, images: usize) -> Result<Running, AllocError>
-    requires { IsRam ram_base ram_pages }
-    ensures { IfOk result (λ running. running ≡ at_opening ram_base ram_pages images) }
+fn open(alloc: Global, script: &Script) -> Result<Running, AllocError>
+    requires { IsScript script.now }
+    ensures { IfOk result (λ running. running ≡ at_opening script.now) }
 {
     let mut handles = Vec::new(alloc);
-    handles.resize(images, 0)?;
+    handles.resize(script.image.as_slice().len(), 0)?;
     let setup = Setup {
-        base: ram_base,
-        pages: ram_pages,
-        clock: opening_clock(),
+        base: script.ram_base,
+        pages: script.ram_pages,
+        ticks: Vec::from_slice(alloc, script.ticks.as_slice())?,
+        clock: opening_clock(script),
         variables: Variables::new(alloc),
+        trace: script.trace,
     };
     Ok(Running {
         machine: Machine::new(alloc, setup)?,
@@ -368,16 +375,16 @@ fn run_steps<O: Sink>(
     ensures halted { IfOk result (λ halted. halted ≡ (run_of script.now inputs.now).halted) }
     ensures puts { Puts result (bytes_of (run_of script.now inputs.now).lines) (O.written out.old) (O.faults out.old) (O.written out.new) (O.faults out.new) }
 {
-    let images = script.image.as_slice().len();
-    let mut running = match open(alloc, script.ram_base, script.ram_pages, images) {
+    let mut running = match open(alloc, script) {
         Ok(running) => running,
         Err(_) => return Err(Stop::Memory),
     };
     let steps = script.step.as_slice();
     for step in steps {
         match make_step(alloc, script, inputs, step, &mut running, out) {
-            Ok(false) => {}
-            Ok(true) => return Ok(true),
+            Ok(Course::GoesOn) => {}
+            Ok(Course::Resets) => return Ok(false),
+            Ok(Course::Halts) => return Ok(true),
             Err(stop) => return Err(stop),
         }
     }
@@ -390,7 +397,7 @@ fn run_steps<O: Sink>(
 /// How the run of a script ended.
 #[derive(Clone, Copy, Debug, PartialEq, Eq)]
 pub enum Outcome {
-    /// The last line is `end`.
+    /// The last line is `end` or a `reset`.
     Done,
     /// The last line is a `halt`.
     Halted,

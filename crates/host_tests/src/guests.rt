@@ -155,8 +155,8 @@ image = \"memory\"
 do = \"memmap\"
 ";
 
-/// Reads its own loaded image protocol field by field; finds the console; installs a protocol of its own, finds it, and takes
-/// it away; lists the handles that have a protocol.
+/// Reads its own loaded image protocol field by field; finds the console; installs a protocol of its own, puts another interface
+/// in its place, opens and closes it, and takes it away; lists handles, protocols and opens; installs two protocols at once.
 const PROTOCOLS: &[u8] = b"
 [[image]]
 name = \"protocols\"
@@ -235,11 +235,63 @@ call check
 ld a0, 8(sp)
 li t1, 0x1234
 call same
-li a2, 0x1235
-call take
+call renew
+li t1, 0
+call check
+call renew
+li t1, 14
+call check
+ld a0, 16(sp)
+la a1, own
+addi a2, sp, 8
+mv a3, s2
+li a4, 0
+li a5, 2
+ld t0, 280(s0)
+call jump
+li t1, 0
+call check
+ld a0, 8(sp)
+li t1, 0x1235
+call same
+ld a0, 16(sp)
+la a1, own
+addi a2, sp, 8
+addi a3, sp, 24
+ld t0, 296(s0)
+call jump
+li t1, 0
+call check
+ld a0, 24(sp)
+li t1, 1
+call same
+ld t2, 8(sp)
+ld a0, 0(t2)
+mv t1, s2
+call same
+ld a0, 8(t2)
+li t1, 0
+call same
+lwu a0, 16(t2)
+li t1, 2
+call same
+lwu a0, 20(t2)
+li t1, 1
+call same
+call free
+li t1, 0
+call check
+call close
+li t1, 0
+call check
+call close
 li t1, 14
 call check
 li a2, 0x1234
+call take
+li t1, 14
+call check
+li a2, 0x1235
 call take
 li t1, 0
 call check
@@ -262,6 +314,79 @@ call check
 ld a0, 8(sp)
 mv t1, s2
 call same
+li a0, 2
+la a1, image
+li a2, 0
+addi a3, sp, 24
+addi a4, sp, 8
+ld t0, 312(s0)
+call jump
+li t1, 0
+call check
+ld a0, 24(sp)
+li t1, 1
+call same
+ld t2, 8(sp)
+ld a0, 0(t2)
+mv t1, s2
+call same
+call free
+li t1, 0
+call check
+ld a0, 56(s3)
+addi a1, sp, 8
+addi a2, sp, 24
+ld t0, 304(s0)
+call jump
+li t1, 0
+call check
+ld a0, 24(sp)
+li t1, 1
+call same
+ld t2, 8(sp)
+ld t2, 0(t2)
+la t3, console
+ld a0, 0(t2)
+ld t1, 0(t3)
+call same
+ld a0, 8(t2)
+ld t1, 8(t3)
+call same
+call free
+li t1, 0
+call check
+sd zero, 16(sp)
+addi a0, sp, 16
+ld t0, 328(s0)
+call pairs
+li t1, 0
+call check
+ld a0, 16(sp)
+addi t1, s2, 32
+call same
+addi a0, sp, 16
+ld t0, 328(s0)
+call pairs
+li t1, 2
+call check
+ld a0, 16(sp)
+la a1, other
+call handle
+li t1, 0
+call check
+ld a0, 8(sp)
+li t1, 0x30
+call same
+ld a0, 16(sp)
+ld t0, 336(s0)
+call pairs
+li t1, 0
+call check
+ld a0, 16(sp)
+ld t0, 336(s0)
+call pairs
+li t1, 2
+call check
 li a0, 0
 leave: ld s3, 56(sp)
 ld s2, 64(sp)
@@ -278,6 +403,27 @@ la a1, own
 li a2, 0
 li a3, 0x1234
 ld t0, 128(s0)
+jr t0
+renew: ld a0, 16(sp)
+la a1, own
+li a2, 0x1234
+li a3, 0x1235
+ld t0, 136(s0)
+jr t0
+close: ld a0, 16(sp)
+la a1, own
+mv a2, s2
+li a3, 0
+ld t0, 288(s0)
+jr t0
+free: ld a0, 8(sp)
+ld t0, 72(s0)
+jr t0
+pairs: la a1, own
+li a2, 0x20
+la a3, other
+li a4, 0x30
+li a5, 0
 jr t0
 take: ld a0, 16(sp)
 la a1, own
@@ -296,6 +442,7 @@ right: ret
 image: .guid 5b1b31a1-9562-11d2-8e3f-00a0c969723b
 console: .guid 387477c2-69c7-11d2-8e39-00a0c969723b
 own: .guid 8be4df61-93ca-11d2-aa0d-00e098032b8c
+other: .guid eb9d2d31-2d88-11d3-9a16-0090273fc14d
 \"\"\"
 [[step]]
 do = \"load\"

@@ -4,6 +4,8 @@
 #[cfg(test)]
 mod commands;
 #[cfg(test)]
+mod events;
+#[cfg(test)]
 mod guests;
 #[cfg(test)]
 mod runs;

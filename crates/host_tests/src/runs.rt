@@ -83,6 +83,18 @@ fn command_over(
     Ok(Answered { status, out, err })
 }
 
+/// A text in which another one stands for each occurrence of a word.
+pub(crate) fn replaced(alloc: Global, text: &str, word: &str, with: &str) -> Result<String, Fail> {
+    let mut made = String::new(alloc);
+    for (place, part) in text.split(word).enumerate() {
+        if place > 0 {
+            made.push_str(with)?;
+        }
+        made.push_str(part)?;
+    }
+    Ok(made)
+}
+
 fn expect(rt: &impl Abort, ran: &Answered, status: Status, text: &str, message: &str) {
     assert_eq!(rt; ran.status, status);
     assert!(rt; ran.out.written() == text.as_bytes());

@@ -1,5 +1,5 @@
 use Rattle.std.proofs.Common.{arith, refl}
-use Rattle.firmware_core.specs.declared.happened.JobEnd.TheVariants.{Left, Halted}
+use Rattle.firmware_core.specs.declared.happened.JobEnd.TheVariants.{Left, Reset, Halted}
 use Rattle.firmware_core.specs.Jobs.{job_of}
 use Rattle.host_engine.proofs.JobLemmas.{begins, goes_on, ends_here, put_here, stops_here, part_by_then}
 use Rattle.host_engine.proofs.PutLemmas.{went, stopped, memory_stop}
@@ -23,6 +23,13 @@ returns-in-Ok-Left-clause-ended g c = ends_here _ _ _ _ _ c.loop-line.invariant.
 pub returns-in-Ok-Left-clause-puts : goal.returns-in-Ok-Left-clause-puts
 returns-in-Ok-Left-clause-puts g c =
     went _ _ _ _ _ _ (put_here _ _ _ _ _ c.loop-line.invariant.so_far (Left c.in-Ok-Left.value c.in-Ok-Left.steps) (rw c.in-Ok-Left.field-0-is at c.in-Ok-Left.ensures).rest) c.loop-line.invariant.never
+
+pub returns-in-Ok-Reset-clause-ended : goal.returns-in-Ok-Reset-clause-ended
+returns-in-Ok-Reset-clause-ended g c = ends_here _ _ _ _ _ c.loop-line.invariant.so_far (Reset c.in-Ok-Reset.kind c.in-Ok-Reset.status) (rw c.in-Ok-Reset.field-0-is at c.in-Ok-Reset.ensures).rest
+
+pub returns-in-Ok-Reset-clause-puts : goal.returns-in-Ok-Reset-clause-puts
+returns-in-Ok-Reset-clause-puts g c =
+    went _ _ _ _ _ _ (put_here _ _ _ _ _ c.loop-line.invariant.so_far (Reset c.in-Ok-Reset.kind c.in-Ok-Reset.status) (rw c.in-Ok-Reset.field-0-is at c.in-Ok-Reset.ensures).rest) c.loop-line.invariant.never
 
 pub returns-in-Ok-Halted-clause-ended : goal.returns-in-Ok-Halted-clause-ended
 returns-in-Ok-Halted-clause-ended g c = ends_here _ _ _ _ _ c.loop-line.invariant.so_far (Halted c.in-Ok-Halted.halt) (rw c.in-Ok-Halted.field-0-is at c.in-Ok-Halted.ensures).rest

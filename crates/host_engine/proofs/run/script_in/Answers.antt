@@ -2,13 +2,13 @@ use Rattle.std.proofs.Common.{sym}
 use Rattle.host_engine.proofs.RunPlanLemmas.{script_had, script_refused}
 use Rattle.host_engine.proofs.run.script_in.Goals as goal
 
-pub returns-in-Ok-read_script-clause-had : goal.returns-in-Ok-read_script-clause-had
-returns-in-Ok-read_script-clause-had g c = script_had _ _ c.in-Ok.file.items _ c.in-Ok.ensures.had (rw (sym c.as_slice.ensures.value) c.in-Ok-read_script.ensures)
+pub returns-in-Ok-read_runnable-clause-had : goal.returns-in-Ok-read_runnable-clause-had
+returns-in-Ok-read_runnable-clause-had g c = script_had _ _ c.in-Ok.file.items _ c.in-Ok.ensures.had (rw (sym c.as_slice.ensures.value) c.in-Ok-read_runnable.ensures.reads)
 
-pub returns-in-Ok-read_script-clause-forms : goal.returns-in-Ok-read_script-clause-forms
-returns-in-Ok-read_script-clause-forms g c = c.scripts_keep_forms.ensures _ _ c.in-Ok-read_script.ensures
+pub returns-in-Ok-read_runnable-clause-forms : goal.returns-in-Ok-read_runnable-clause-forms
+returns-in-Ok-read_runnable-clause-forms g c = c.in-Ok-read_runnable.ensures.forms
 
 pub returns-in-Ok-place_text-clause-refused : goal.returns-in-Ok-place_text-clause-refused
 returns-in-Ok-place_text-clause-refused g c =
-    let said = rw c.in-Err-At.field-0-is at c.in-Err-At.ensures in
+    let said = rw c.in-Err-At.field-0-is at c.in-Err-At.ensures.reads in
     λ told' out p. script_refused _ _ c.in-Ok.file.items (c.in-Err-At.step, c.in-Err-At.kind) c.in-Ok-place_text.text c.in-Ok.ensures.had (rw (sym c.as_slice.ensures.value) said) c.in-Ok-place_text.ensures told' 0 0 0 0 out p

@@ -1,15 +1,16 @@
-use Rattle.std.proofs.Common.{◌≡◌, Some, None, sym, ◌∙◌}
-use Rattle.time_service.specs.Clocks.{ClockState, set_to}
-use Rattle.host_engine.specs.ScriptRuns.{opening_time}
-use Rattle.host_engine.proofs.ClockLemmas.{opening_text}
+use Rattle.std.proofs.Common.{◌≡◌, None, List, ℕ, sym, ap, ◌∙◌}
+use Rattle.time_service.specs.Texts.{clock_of}
+use Rattle.host_script.specs.Plain.{Plain}
+use Rattle.host_engine.specs.ScriptRuns.{clock_set}
+use Rattle.host_engine.proofs.ClockLemmas.{sets_one}
 use Rattle.host_engine.proofs.script_run.opening_clock.Goals as goal
 
 pub unreachable-requires : goal.unreachable-requires
 unreachable-requires c =
-    let none = sym c.in-None.is ∙ c.at.ensures.clock ∙ opening_text c.texts_set_clocks.ensures in
-    cc
+    let text : c.as_str.result.now ≡ c.args.script.now.time = c.as_str.ensures ∙ ap (λ (s : Plain). s.time) c.script.view_is in
+    absurd (sets_one c.args.script.now.time c.requires.time (ap clock_of (sym text) ∙ sym c.at.ensures.clock ∙ c.in-None.is))
 
 pub returns-clause-clock : goal.returns-clause-clock
 returns-clause-clock c =
-    let some = sym c.in-Some.is ∙ c.at.ensures.clock ∙ opening_text c.texts_set_clocks.ensures in
-    cc
+    let text : c.as_str.result.now ≡ c.args.script.now.time = c.as_str.ensures ∙ ap (λ (s : Plain). s.time) c.script.view_is in
+    ap clock_set (sym c.in-Some.is ∙ c.at.ensures.clock ∙ ap clock_of text)

@@ -1,37 +1,42 @@
 use Rattle.std.proofs.Common.{◌≡◌, ◌∙◌, ap, sym, subst, arith, length}
 use Rattle.host_script.specs.Forms.{AreSteps}
 use Rattle.host_script.specs.Plain.{Plain}
+use Rattle.host_engine.specs.declared.course.Course.TheVariants.{GoesOn, Resets, Halts}
 use Rattle.host_engine.specs.ScriptRuns.{run_of}
 use Rattle.host_engine.proofs.PlaceLemmas.{step_at}
 use Rattle.host_engine.proofs.PutLemmas.{went, stopped}
-use Rattle.host_engine.proofs.StepLemmas.{opens, opened_for, handles_opened, goes_on, halts_here, stops_here, ends, stops_at_end}
+use Rattle.host_engine.proofs.StepLemmas.{opens, handles_opened, goes_on, ends_here, stops_here, ends, stops_at_end}
 use Rattle.host_engine.proofs.script_run.run_steps.Goals as goal
 
 pub loop-step-init : goal.loop-step-init
-loop-step-init g c =
-    let images : length c.as_slice-images.result.now ≡ length c.args.script.now.image = ap length c.as_slice-images.ensures.value ∙ ap (λ (s : Plain). length s.image) c.script.view_is in
-    record {
-      so_far = opens c.args.script.now c.args.inputs.now _ c.as_slice-steps.result.now (g.O.Sink.written c.args.out.now)
-          (opened_for c.args.script.now _ c.script.inside.ram_base c.script.inside.ram_pages (length c.as_slice-images.result.now) c.in-Ok.ensures (ap (λ (s : Plain). s.ram_base) c.script.view_is) (ap (λ (s : Plain). s.ram_pages) c.script.view_is) images)
-          (c.as_slice-steps.ensures.value ∙ ap (λ (s : Plain). s.step) c.script.view_is);
-      never = omega arith;
-      handles = handles_opened _ _ _ _ c.in-Ok.ensures ∙ images;
-    }
+loop-step-init g c = record {
+  so_far = opens c.args.script.now c.args.inputs.now _ c.as_slice-steps.result.now (g.O.Sink.written c.args.out.now) c.in-Ok.ensures (c.as_slice-steps.ensures.value ∙ ap (λ (s : Plain). s.step) c.script.view_is);
+  never = omega arith;
+  handles = handles_opened c.args.script.now _ c.in-Ok.ensures;
+}
 
 pub loop-step-preserved : goal.loop-step-preserved
 loop-step-preserved g c = record {
-  so_far = goes_on c.args.script.now c.args.inputs.now (run_of c.args.script.now c.args.inputs.now) c.as_slice-steps.result.now c.loop-step.step-index c.step-item.result c.loop-step.running _ _ (g.O.Sink.written c.make_step.new.out) c.loop-step-test.true c.step-item.is c.loop-step.invariant.so_far c.make_step.new.running (rw c.in-Ok-false.field-0-test at c.in-Ok-false.ensures.made) c.in-Ok-false.ensures.puts.whole;
-  never = omega (arith, c.in-Ok-false.ensures.puts.never_falls);
+  so_far = goes_on c.args.script.now c.args.inputs.now (run_of c.args.script.now c.args.inputs.now) c.as_slice-steps.result.now c.loop-step.step-index c.step-item.result c.loop-step.running _ _ (g.O.Sink.written c.make_step.new.out) c.loop-step-test.true c.step-item.is c.loop-step.invariant.so_far c.make_step.new.running (rw c.in-Ok-GoesOn.field-0-is at c.in-Ok-GoesOn.ensures.made) c.in-Ok-GoesOn.ensures.puts.whole;
+  never = omega (arith, c.in-Ok-GoesOn.ensures.puts.never_falls);
   handles = c.make_step.ensures.handles ∙ c.loop-step.invariant.handles;
 }
 
-pub returns-in-Ok-true-clause-halted : goal.returns-in-Ok-true-clause-halted
-returns-in-Ok-true-clause-halted g c = (halts_here c.args.script.now c.args.inputs.now (run_of c.args.script.now c.args.inputs.now) c.as_slice-steps.result.now c.loop-step.step-index c.step-item.result c.loop-step.running _ _ (g.O.Sink.written c.make_step.new.out) c.loop-step-test.true c.step-item.is c.loop-step.invariant.so_far c.make_step.new.running (rw c.in-Ok-true.field-0-test at c.in-Ok-true.ensures.made) c.in-Ok-true.ensures.puts.whole).is_halted
+pub returns-in-Ok-Resets-clause-halted : goal.returns-in-Ok-Resets-clause-halted
+returns-in-Ok-Resets-clause-halted g c = (ends_here c.args.script.now c.args.inputs.now (run_of c.args.script.now c.args.inputs.now) c.as_slice-steps.result.now c.loop-step.step-index c.step-item.result c.loop-step.running _ _ (g.O.Sink.written c.make_step.new.out) c.loop-step-test.true c.step-item.is c.loop-step.invariant.so_far Resets (λ (e : Resets ≡ GoesOn). cc) c.make_step.new.running (rw c.in-Ok-Resets.field-0-is at c.in-Ok-Resets.ensures.made) c.in-Ok-Resets.ensures.puts.whole).is_halted
 
-pub returns-in-Ok-true-clause-puts : goal.returns-in-Ok-true-clause-puts
-returns-in-Ok-true-clause-puts g c =
-    went _ _ _ _ _ _ (halts_here c.args.script.now c.args.inputs.now (run_of c.args.script.now c.args.inputs.now) c.as_slice-steps.result.now c.loop-step.step-index c.step-item.result c.loop-step.running _ _ (g.O.Sink.written c.make_step.new.out) c.loop-step-test.true c.step-item.is c.loop-step.invariant.so_far c.make_step.new.running (rw c.in-Ok-true.field-0-test at c.in-Ok-true.ensures.made) c.in-Ok-true.ensures.puts.whole).put
-    (omega (arith, c.loop-step.invariant.never, c.in-Ok-true.ensures.puts.never_falls))
+pub returns-in-Ok-Resets-clause-puts : goal.returns-in-Ok-Resets-clause-puts
+returns-in-Ok-Resets-clause-puts g c =
+    went _ _ _ _ _ _ (ends_here c.args.script.now c.args.inputs.now (run_of c.args.script.now c.args.inputs.now) c.as_slice-steps.result.now c.loop-step.step-index c.step-item.result c.loop-step.running _ _ (g.O.Sink.written c.make_step.new.out) c.loop-step-test.true c.step-item.is c.loop-step.invariant.so_far Resets (λ (e : Resets ≡ GoesOn). cc) c.make_step.new.running (rw c.in-Ok-Resets.field-0-is at c.in-Ok-Resets.ensures.made) c.in-Ok-Resets.ensures.puts.whole).put
+    (omega (arith, c.loop-step.invariant.never, c.in-Ok-Resets.ensures.puts.never_falls))
+
+pub returns-in-Ok-Halts-clause-halted : goal.returns-in-Ok-Halts-clause-halted
+returns-in-Ok-Halts-clause-halted g c = (ends_here c.args.script.now c.args.inputs.now (run_of c.args.script.now c.args.inputs.now) c.as_slice-steps.result.now c.loop-step.step-index c.step-item.result c.loop-step.running _ _ (g.O.Sink.written c.make_step.new.out) c.loop-step-test.true c.step-item.is c.loop-step.invariant.so_far Halts (λ (e : Halts ≡ GoesOn). cc) c.make_step.new.running (rw c.in-Ok-Halts.field-0-is at c.in-Ok-Halts.ensures.made) c.in-Ok-Halts.ensures.puts.whole).is_halted
+
+pub returns-in-Ok-Halts-clause-puts : goal.returns-in-Ok-Halts-clause-puts
+returns-in-Ok-Halts-clause-puts g c =
+    went _ _ _ _ _ _ (ends_here c.args.script.now c.args.inputs.now (run_of c.args.script.now c.args.inputs.now) c.as_slice-steps.result.now c.loop-step.step-index c.step-item.result c.loop-step.running _ _ (g.O.Sink.written c.make_step.new.out) c.loop-step-test.true c.step-item.is c.loop-step.invariant.so_far Halts (λ (e : Halts ≡ GoesOn). cc) c.make_step.new.running (rw c.in-Ok-Halts.field-0-is at c.in-Ok-Halts.ensures.made) c.in-Ok-Halts.ensures.puts.whole).put
+    (omega (arith, c.loop-step.invariant.never, c.in-Ok-Halts.ensures.puts.never_falls))
 
 pub returns-in-Err-make_step-clause-puts : goal.returns-in-Err-make_step-clause-puts
 returns-in-Err-make_step-clause-puts g c =

@@ -1,8 +1,8 @@
+use Rattle.std.proofs.Common.{sym}
 use Rattle.firmware_core.proofs.PartLemmas.{whole_memory}
 use Rattle.firmware_core.proofs.firmware.Firmware.at_calculate_crc32.Goals as goal
 
 pub invariant_of-self : goal.invariant_of-self
-invariant_of-self c = (whole_memory _ _ c.runtime.view_is c.self.invariant.0 _ c.calculate_crc32.ensures.base c.calculate_crc32.ensures.pages, c.none-self-inside.ensures _ _)
-
-pub invariant_of-self-2 : goal.invariant_of-self-2
-invariant_of-self-2 c = (whole_memory _ _ c.runtime.view_is c.self.invariant.0 _ c.calculate_crc32.ensures.base c.calculate_crc32.ensures.pages, c.none-self-inside.ensures _ _)
+invariant_of-self c =
+    let whole = rw (sym c.self-inside.view_is) at c.self.invariant.0 in
+    (whole_memory _ _ c.runtime.view_is whole _ c.calculate_crc32.ensures.base c.calculate_crc32.ensures.pages, c.none-self-inside-inside.ensures _ _)

@@ -6,7 +6,7 @@ pub invariant_of-result-2 : goal.invariant_of-result-2
 invariant_of-result-2 c = (
   record {
     runtime = c.in_ok-runtime.ensures.belongs;
-    pool = subst (λ (p : List BlockPage). Together p c.in_ok-runtime.runtime.pages) (sym c.new-2.ensures) tt;
+    pool = subst (λ (p : List BlockPage). Together p c.in_ok-runtime.runtime.pages) (sym c.new-3.ensures) tt;
     clock = omega arith;
   },
   c.none.ensures _ _,

@@ -1,15 +1,29 @@
 use Rattle.std.proofs.Common.{◌≡◌, ◌≤◌, ◌<◌, ℕ, arith, refl, sym, ap, subst, ◌∙◌}
 use Rattle.firmware_core.specs.Parts.{Parts}
 use Rattle.firmware_core.specs.Turns.{State, trapped}
-use Rattle.firmware_core.specs.Jobs.{next_said}
 use Rattle.firmware_core.proofs.TurnLemmas.{trap_leaves, frames_leave, next_is, none_by}
-use Rattle.firmware_core.proofs.JobLemmas.{Silent, steps_below, goes_silently, trap_first, frames_first}
+use Rattle.firmware_core.specs.Jobs.{SilentlyTo}
+use Rattle.firmware_core.specs.Views.{potential}
+use Rattle.firmware_core.proofs.SilentLemmas.{Silent, silent_at_first, silent_nearer, steps_below, goes_silently, trap_first, frames_first}
 use Rattle.firmware_core.proofs.machine.Machine.run_plain.Goals as goal
 
 pub loop-step-init : goal.loop-step-init
 loop-step-init c =
     let steps : c.args.self.now.steps ≡ c.self.inside.steps = sym (ap (λ (s : State). s.steps) c.self.view_is) in
-    record { said = refl; at = steps; bound = refl; last = c.requires; since = omega arith; first = λ e. refl; second = λ e. (let none : ⊥ = omega arith in absurd none) }
+    record {
+      silent = silent_at_first c.args.self.now;
+      at = steps;
+      bound = refl;
+      last = c.requires.end;
+      since = omega arith;
+      up = λ e. (let none : ⊥ = omega arith in absurd none);
+      quiet = c.requires.quiet;
+      events = refl;
+      level = refl;
+      time = omega arith;
+      first = λ e. refl;
+      second = λ e. (let none : ⊥ = omega arith in absurd none);
+    }
 
 pub count-requires : goal.count-requires
 count-requires c =
@@ -18,20 +32,34 @@ count-requires c =
     let bound : c.self-in-loop-step.inside.bound ≡ c.loop-step.self.bound = ap (λ (s : State). s.bound) c.self-in-loop-step.view_is in
     omega arith
 
-pub returns-in-Trap-clause-said : goal.returns-in-Trap-clause-said
-returns-in-Trap-clause-said c =
-    ap (λ (f : Parts). next_said (record { firmware = f; steps = c.self-in-loop-step.inside.steps; bound = c.self-in-loop-step.inside.bound })) (trap_leaves _ _ _ _ c.in-Trap.is c.instruct.ensures)
-    ∙ ap next_said c.self-in-loop-step.view_is ∙ c.loop-step.invariant.said
+pub returns-in-Trap-clause-silent : goal.returns-in-Trap-clause-silent
+returns-in-Trap-clause-silent c =
+    subst (λ (s : State). SilentlyTo c.args.self.now s)
+    (sym (ap (λ (f : Parts). record { firmware = f; steps = c.self-in-loop-step.inside.steps; bound = c.self-in-loop-step.inside.bound; trace = c.self-in-loop-step.inside.trace }) (trap_leaves _ _ _ _ c.in-Trap.is c.instruct.ensures) ∙ c.self-in-loop-step.view_is))
+    c.loop-step.invariant.silent
+
+pub returns-in-Trap-clause-nearer : goal.returns-in-Trap-clause-nearer
+returns-in-Trap-clause-nearer c =
+    subst (λ (s : State). potential s ≤ potential c.args.self.now)
+    (sym (ap (λ (f : Parts). record { firmware = f; steps = c.self-in-loop-step.inside.steps; bound = c.self-in-loop-step.inside.bound; trace = c.self-in-loop-step.inside.trace }) (trap_leaves _ _ _ _ c.in-Trap.is c.instruct.ensures) ∙ c.self-in-loop-step.view_is))
+    (silent_nearer _ _ _ _ c.loop-step.invariant)
 
 pub returns-in-Trap-clause-one : goal.returns-in-Trap-clause-one
 returns-in-Trap-clause-one c =
     λ one none. trap_first _ _ _ _ (subst (λ (s : State). Silent c.args.self.now s c.loop-step.step c.args.end) (sym c.self-in-loop-step.view_is) c.loop-step.invariant) c.loop-step-test.true c.in-Trap.trap c.instruct.new.self
     c.halt_by.result c.in-Trap.ensures (c.halt_by.ensures ∙ ap (trapped c.in-Trap.trap) c.pc-pc.ensures) one
 
-pub returns-in-Frames-clause-said : goal.returns-in-Frames-clause-said
-returns-in-Frames-clause-said c =
-    ap (λ (f : Parts). next_said (record { firmware = f; steps = c.self-in-loop-step.inside.steps; bound = c.self-in-loop-step.inside.bound })) (frames_leave _ _ _ c.in-Frames.is c.instruct.ensures)
-    ∙ ap next_said c.self-in-loop-step.view_is ∙ c.loop-step.invariant.said
+pub returns-in-Frames-clause-silent : goal.returns-in-Frames-clause-silent
+returns-in-Frames-clause-silent c =
+    subst (λ (s : State). SilentlyTo c.args.self.now s)
+    (sym (ap (λ (f : Parts). record { firmware = f; steps = c.self-in-loop-step.inside.steps; bound = c.self-in-loop-step.inside.bound; trace = c.self-in-loop-step.inside.trace }) (frames_leave _ _ _ c.in-Frames.is c.instruct.ensures) ∙ c.self-in-loop-step.view_is))
+    c.loop-step.invariant.silent
+
+pub returns-in-Frames-clause-nearer : goal.returns-in-Frames-clause-nearer
+returns-in-Frames-clause-nearer c =
+    subst (λ (s : State). potential s ≤ potential c.args.self.now)
+    (sym (ap (λ (f : Parts). record { firmware = f; steps = c.self-in-loop-step.inside.steps; bound = c.self-in-loop-step.inside.bound; trace = c.self-in-loop-step.inside.trace }) (frames_leave _ _ _ c.in-Frames.is c.instruct.ensures) ∙ c.self-in-loop-step.view_is))
+    (silent_nearer _ _ _ _ c.loop-step.invariant)
 
 pub returns-in-Frames-clause-one : goal.returns-in-Frames-clause-one
 returns-in-Frames-clause-one c =
@@ -43,3 +71,6 @@ loop-step-preserved c =
     let none = none_by _ c.if-is_some.ensures in
     goes_silently _ _ _ _ (subst (λ (s : State). Silent c.args.self.now s c.loop-step.step c.args.end) (sym c.self-in-loop-step.view_is) c.loop-step.invariant) c.loop-step-test.true c.instruct.new.self c.count.new.self
     (sym c.slot_at.ensures ∙ none) (next_is _ _ c.in-Next.ensures) c.count.ensures
+
+pub returns-clause-nearer : goal.returns-clause-nearer
+returns-clause-nearer c = silent_nearer _ _ _ _ c.loop-step.invariant

@@ -1,4 +1,4 @@
-use Rattle.firmware_core.proofs.JobLemmas.{Silent}
+use Rattle.firmware_core.proofs.SilentLemmas.{Silent}
 use Rattle.firmware_core.proofs.machine.Machine.run_plain.Given as goal
 
 abbrev pub invariant-loop-step : goal.invariant-loop-step

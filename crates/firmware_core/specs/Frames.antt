@@ -1,0 +1,71 @@
+-- Ticks, the start of notifications, and frames.
+use Rattle.std.specs.Prelude.{ℕ, ◌≡◌, ◌≤◌, ◌+◌, ◌-◌, ◌*◌, ◌%◌, nat_le, Bool, List, [], ◌∷◌, ◌++◌, length, take, replicate, Option, None, slice_get, slice_index, slice_set}
+use Rattle.page_alloc.specs.declared.layout.Layout.{Layout}
+use Rattle.event_queue.specs.declared.event.Notify.{Notify}
+use Rattle.event_queue.specs.Queue.{next_entry, notified, after_next}
+use Rattle.event_queue.specs.Timers.{has_moment, ticked, moment_ahead}
+use Rattle.firmware_core.specs.declared.frame.Phase.TheVariants.{Called}
+use Rattle.firmware_core.specs.declared.frame.Purpose.{Purpose}
+use Rattle.firmware_core.specs.declared.frame.Purpose.TheVariants.{Notification}
+use Rattle.firmware_core.specs.declared.frame.Frame.{Frame}
+use Rattle.firmware_core.specs.Harts.{Hart}
+use Rattle.firmware_core.specs.Parts.{Parts}
+
+-- ---- ticks
+
+-- A tick moment lies above the last tick and at most at the present.
+abbrev pub tick_is_due : Parts → Bool
+tick_is_due f = has_moment f.events f.time
+
+-- Each timer that is due signals its event.
+abbrev pub with_tick : Parts → Parts
+with_tick f = record f { events = ticked f.events f.time }
+
+-- ---- frames
+
+-- 64 frames stand, the most by this host's choice.
+abbrev pub is_full : Parts → Bool
+is_full f = nat_le 64 (length f.frames)
+
+-- Code begins, and its caller is kept.
+abbrev pub pushed : Parts → Purpose → Hart → Parts
+pushed f purpose hart = record f { hart = hart; frames = f.frames ++ record { purpose = purpose; back = f.hart } ∷ [] }
+
+-- the innermost frame, and those before it
+abbrev pub top_of : List Frame → Option Frame
+top_of frames = slice_get frames (length frames - 1)
+
+abbrev pub below_top : List Frame → List Frame
+below_top frames = take (length frames - 1) frames
+
+-- Code returns to the slot behind the services.
+abbrev pub return_address : Layout → ℕ
+return_address layout = layout.slots + 16 * 67
+
+-- What code begins with: ra, sp, two arguments, and every other register 0.
+abbrev pub registers_for : Layout → ℕ → ℕ → ℕ → List ℕ
+registers_for layout sp a0 a1 = slice_set (slice_set (slice_set (slice_set (replicate 32 0) 1 (return_address layout)) 2 sp) 10 a0) 11 a1
+
+-- ---- notifications
+
+-- the notification that comes next: the earliest of the greatest level above the present one
+abbrev pub notice_of : Parts → Option Notify
+notice_of f = notified f.events.events (next_entry f.events.queue f.hart.tpl)
+
+abbrev pub without_notice : Parts → Parts
+without_notice f = record f { events = after_next f.events (next_entry f.events.queue f.hart.tpl) }
+
+-- the stack pointer of the code that runs, rounded down to 16 (RISC-V psABI, the stack's alignment)
+abbrev pub aligned_stack : Parts → ℕ
+aligned_stack f = slice_index f.hart.x 2 - slice_index f.hart.x 2 % 16
+
+-- A notification's function begins at its event's level, with the event and its context. (UEFI 2.10, 7.1.1: EFI_EVENT_NOTIFY)
+unfoldable pub with_notification : Parts → Notify → Parts
+with_notification f n = pushed f Notification (record { x = registers_for f.runtime.layout (aligned_stack f) n.event n.context; pc = n.function; phase = Called; tpl = n.tpl })
+
+-- ---- what is known ahead
+
+-- Neither a notification comes, nor a tick for so many units of time.
+pub record Quiet (f : Parts) (units : ℕ) : Type 0 where
+  pub notice : notice_of f ≡ None
+  pub tick : f.time + units ≤ moment_ahead f.events

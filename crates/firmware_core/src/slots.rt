@@ -1,0 +1,54 @@
+//! The service of each slot.
+ghost use Rattle.std.specs.Prelude.{◌≡◌, IfOk};
+ghost use Rattle.firmware_core.specs.Slots.{serve, serve_slot};
+
+use crate::conclusion::Conclusion;
+use crate::event_service::event_service_of;
+use crate::firmware::Firmware;
+use crate::service::{Service, service_of};
+use protocol_services::is_protocol_slot;
+use runtime_services::RuntimeService;
+use std::alloc::{AllocError, Global};
+use uh_base::EfiStatus;
+
+impl Firmware {
+    /// The service of a slot.
+    #[tactic(auto, unfolding(crate::specs::Slots::serve_slot))]
+    pub(crate) fn serve_slot(&mut self, alloc: Global, slot: u8) -> Result<Conclusion, AllocError>
+        ensures { IfOk result (λ c. record { conclusion = c; firmware = self.new } ≡ serve_slot slot self.old) }
+    {
+        if is_protocol_slot(slot) {
+            self.at_protocols(alloc, slot)
+        } else if RuntimeService::of_slot(slot).is_some() {
+            self.at_runtime(alloc, slot)
+        } else if let Some(service) = event_service_of(slot) {
+            self.serve_event(alloc, service)
+        } else {
+            self.serve(alloc, service_of(slot))
+        }
+    }
+
+    /// A service on memory, of the console, the reset, or the return.
+    #[tactic(auto, unfolding(crate::specs::Slots::serve))]
+    fn serve(&mut self, alloc: Global, service: Service) -> Result<Conclusion, AllocError>
+        ensures { IfOk result (λ c. record { conclusion = c; firmware = self.new } ≡ serve service self.old) }
+    {
+        match service {
+            Service::AllocatePages => self.at_allocate_pages(),
+            Service::FreePages => Ok(self.at_free_pages()),
+            Service::GetMemoryMap => self.at_get_memory_map(),
+            Service::AllocatePool => self.at_allocate_pool(),
+            Service::FreePool => Ok(self.at_free_pool()),
+            Service::CalculateCrc32 => self.at_calculate_crc32(alloc),
+            Service::CopyMem => self.at_copy_mem(alloc),
+            Service::SetMem => self.at_set_mem(alloc),
+            Service::OutputString => self.at_output_string(alloc),
+            Service::TestString => self.at_test_string(alloc),
+            Service::SetMode => Ok(self.at_set_mode()),
+            Service::Screen => Ok(Conclusion::Answers(EfiStatus::SUCCESS.0)),
+            Service::Reset => Ok(self.at_reset()),
+            Service::Return => Ok(self.at_return()),
+            Service::Unbuilt => Ok(Conclusion::Answers(EfiStatus::UNSUPPORTED.0)),
+        }
+    }
+}
