@@ -24,11 +24,14 @@ pub struct Kept {
 }
 
 impl Model for Kept {
+    ghost use Rattle.std.specs.Prelude.{◌≡◌, length};
     ghost use Rattle.map_faults.specs.Grounds.{Kept as KeptImage};
 
     ghost Value = { KeptImage };
 
     ghost view = { λ k. record { handle = k.handle; base = k.base; pages = k.pages; sites = k.sites.items; words = k.words.items } };
+
+    ghost invariant = { λ k. length k.same.items ≡ length k.sites.items };
 }
 
 /// What a virtual address map is judged by.

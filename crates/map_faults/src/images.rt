@@ -60,7 +60,7 @@ fn leaving(by: u64, sites: &[Site], words: &[u64]) -> Option<u32>
 }
 
 /// The displacement of what lies at an address, modulo 2^64; 0 where no entry holds it.
-fn displacement_at(entries: &[Descriptor], at: u64) -> u64
+pub fn displacement_at(entries: &[Descriptor], at: u64) -> u64
     ensures { result ≡ displacement_by (entry_at entries.now at) }
 {
     match entry_at(entries, at) {

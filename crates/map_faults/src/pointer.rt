@@ -20,7 +20,7 @@ pub enum ConvertRefusal {
 }
 
 /// The entry for the runtime that holds an address.
-pub(crate) fn entry_at(entries: &[Descriptor], at: u64) -> Option<&Descriptor>
+pub fn entry_at(entries: &[Descriptor], at: u64) -> Option<&Descriptor>
     ensures { option_copied result ≡ entry_at entries.now at }
 {
     entries

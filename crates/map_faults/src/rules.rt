@@ -14,7 +14,7 @@ const RUNTIME: u64 = 1 << 63;
 const LAST_PAGE: u64 = 0xffff_ffff_ffff_f000;
 
 /// Whether the firmware needs the memory at run time.
-pub(crate) fn is_runtime(descriptor: &Descriptor) -> bool
+pub fn is_runtime(descriptor: &Descriptor) -> bool
     ensures { result ≡ is_runtime descriptor.now }
 {
     descriptor.attribute / RUNTIME % 2 == 1
@@ -28,7 +28,7 @@ fn is_before(at: u64, start: u64, pages: u64) -> bool
 }
 
 /// Whether an entry has the start and the pages of a runtime descriptor.
-pub(crate) fn is_named_by(entry: &Descriptor, descriptor: &Descriptor) -> bool
+pub fn is_named_by(entry: &Descriptor, descriptor: &Descriptor) -> bool
     ensures { result ≡ is_named_by entry.now descriptor.now }
 {
     is_runtime(descriptor) && descriptor.start == entry.start && descriptor.pages == entry.pages
