@@ -35,13 +35,21 @@ abbrev pub with_firmware : Layout → Pages → Pages
 with_firmware layout m =
     with_rights (reserved (reserved (built layout m) (page_of_ram layout layout.os_args) 16) (page_of_ram layout layout.slots) 1) (page_of_ram layout layout.slots) 1 readable
 
--- The memory map is that of opening, and one window shows RAM at its own addresses.
+-- The memory map is that of opening, and one window shows RAM at its own addresses. Boot services have begun; the operating
+-- system's window, its stack first, isn't moved by a virtual address map.
 abbrev pub runtime_at : ℕ → ℕ → Runtime
 runtime_at base pages = record {
   layout = layout_at base pages;
   memory = with_firmware (layout_at base pages) (fresh base pages);
   pages = record { base = base; pages = opening_pages (layout_at base pages); key = 1 };
   view = record { virt = base; phys = base; len = 4096 * pages } ∷ [];
+  descriptors = [];
+  kept = [];
+  notifies = [];
+  gone = false;
+  mapped = false;
+  os_virtual = (layout_at base pages).os_stack;
+  room = 0;
 }
 
 -- EFI_SIMPLE_TEXT_OUTPUT_PROTOCOL_GUID, 387477c2-69c7-11d2-8e39-00a0c969723b (UEFI 2.10, 12.4.1)

@@ -85,6 +85,13 @@ pub(crate) fn runtime_at(alloc: Global, base: u64, pages: u32) -> Result<Runtime
         memory,
         pages: map,
         view,
+        descriptors: Vec::new(alloc),
+        kept: Vec::new(alloc),
+        notifies: Vec::new(alloc),
+        gone: false,
+        mapped: false,
+        os_virtual: layout.os_stack,
+        room: Vec::new(alloc),
     })
 }
 
