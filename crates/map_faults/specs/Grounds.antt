@@ -8,14 +8,15 @@ use Rattle.page_alloc.specs.Layout.{IsLayout}
 use Rattle.memory_map.specs.declared.descriptor.Descriptor.{Descriptor}
 use Rattle.memory_map.specs.Map.{Covers}
 
--- a runtime driver that stays: its handle, the address of its first byte and its pages; what moves with it, and the words
--- there as the load left them
+-- a runtime driver that stays: its handle, the address of its first byte and its pages; what moves with it, the words
+-- there as the load left them, and a mark for each of these, which no rule reads
 pub record Kept : Type 0 where
   pub handle : ℕ
   pub base : ℕ
   pub pages : ℕ
   pub sites : List Site
   pub words : List ℕ
+  pub same : List Bool
 
 -- where RAM lies; the descriptors of its memory map; the address at which the operating system's window is seen from the
 -- map on; the runtime drivers that stay; whether boot services are over, and whether a map was made

@@ -19,19 +19,16 @@ pub struct Kept {
     pub sites: Vec<Site>,
     /// The words of these sites as its load left them.
     pub words: Vec<u64>,
-    /// One mark for each site, to work with. They don't count.
+    /// One mark for each site, to work with. No fault rests on them.
     pub same: Vec<bool>,
 }
 
 impl Model for Kept {
-    ghost use Rattle.std.specs.Prelude.{◌≡◌, length};
     ghost use Rattle.map_faults.specs.Grounds.{Kept as KeptImage};
 
     ghost Value = { KeptImage };
 
-    ghost view = { λ k. record { handle = k.handle; base = k.base; pages = k.pages; sites = k.sites.items; words = k.words.items } };
-
-    ghost invariant = { λ k. length k.same.items ≡ length k.sites.items };
+    ghost view = { λ k. record { handle = k.handle; base = k.base; pages = k.pages; sites = k.sites.items; words = k.words.items; same = k.same.items } };
 }
 
 /// What a virtual address map is judged by.
