@@ -1,11 +1,13 @@
 -- The names of services are read back, and are words.
 use Rattle.std.proofs.Common.{◌≡◌, ℕ, zero, suc, ◌+◌, ◌<◌, ◌≤◌, Bool, true, false, ◌&&◌, not, nat_lt, List, [], ◌∷◌, length, map, get_or, Option, Some, None, Bor, refl, ap, subst, arith}
-use Rattle.std.specs.Prelude.{◌==◌}
+use Rattle.std.specs.Prelude.{◌==◌, if◌then◌else◌}
+use Rattle.std.specs.Str.{bytes_eq}
+use Rattle.std.proofs.lemmas.Slice.Eq.{bytes_eq-Decides}
 use Rattle.std.specs.List.{slice_get, list_all}
 use Rattle.std.proofs.lemmas.Option.{slice_get-map, slice_get-get_or, slice_get_past}
 use Rattle.std.proofs.lemmas.Bool.{and_parts}
 use Rattle.std.proofs.lemmas.Bool.Decides.{nat_tests}
-use Rattle.record_text.specs.Services.{service_names, or_empty, service_name, service_slot, ServicesReadBack}
+use Rattle.record_text.specs.Services.{service_names, or_empty, service_name, slot_from, service_slot, ServicesReadBack}
 use Rattle.record_text.specs.Guesses.{is_space}
 
 -- ---- the name of a slot
@@ -62,3 +64,33 @@ has_no_space slot (c ∷ name) h = (and_parts (is_slot slot (service_slot (c ∷
 
 pub service_no_space : (slot : ℕ) → list_all (λ b. not (is_space b)) (service_name slot) ≡ true
 service_no_space slot = has_no_space slot (service_name slot) (service_back slot)
+
+-- ---- a name that has a slot
+
+abbrev are_words : List (List ℕ) → Bool
+are_words [] = true
+are_words (name ∷ names) = list_all (λ b. not (is_space b)) name && are_words names
+
+table_has_words : are_words service_names ≡ true
+unfolding service_names
+table_has_words = refl
+
+found_here : (n : ℕ) (first : List ℕ) (names : List (List ℕ)) (name : List ℕ) (slot : ℕ) (same : Bool) → bytes_eq first name ≡ same
+    → list_all (λ b. not (is_space b)) first ≡ true → (if same then Some n else slot_from (n + 1) names name) ≡ Some slot
+    → (slot_from (n + 1) names name ≡ Some slot → list_all (λ b. not (is_space b)) name ≡ true)
+    → list_all (λ b. not (is_space b)) name ≡ true
+found_here n first names name slot true is w h later = subst (λ s. list_all (λ b. not (is_space b)) s ≡ true) ((bytes_eq-Decides first name).0 is) w
+found_here n first names name slot false is w h later = later h
+
+found_word : (n : ℕ) (names : List (List ℕ)) (name : List ℕ) (slot : ℕ) → are_words names ≡ true → slot_from n names name ≡ Some slot → list_all (λ b. not (is_space b)) name ≡ true
+found_word n [] name slot w h = cc
+found_word n (first ∷ names) name slot w h =
+    found_here n first names name slot (bytes_eq first name) refl (and_parts (list_all (λ b. not (is_space b)) first) (are_words names) w).0 h (found_word (n + 1) names name slot (and_parts (list_all (λ b. not (is_space b)) first) (are_words names) w).1)
+
+listed_word : (name : List ℕ) (slot : ℕ) (is_empty : Bool) → (if is_empty then None else slot_from 0 service_names name) ≡ Some slot → list_all (λ b. not (is_space b)) name ≡ true
+listed_word name slot true h = cc
+listed_word name slot false h = found_word 0 service_names name slot table_has_words h
+
+pub slot_no_space_name : (name : List ℕ) (slot : ℕ) → service_slot name ≡ Some slot → list_all (λ b. not (is_space b)) name ≡ true
+unfolding service_slot
+slot_no_space_name name slot h = listed_word name slot (length name == 0) h

@@ -5,11 +5,14 @@ use Rattle.std.specs.Prelude.{Bool, ◌==◌}
 use Rattle.std.specs.Str.{bytes_eq}
 use Rattle.std.specs.Borrow.{Bor}
 use Rattle.uh_base.specs.Numbers.{number_of, hexadecimal_number}
+use Rattle.record_names.specs.Faults.{guess_of as fault_of}
+use Rattle.record_names.specs.Parts.{part_of}
+use Rattle.record_names.specs.Rules.{rule_of}
 use Rattle.record_text.specs.Causes.{cause_of}
 use Rattle.record_text.specs.Services.{service_slot}
 use Rattle.record_text.specs.HexBytes.{bytes_of}
 use Rattle.record_text.specs.declared.line.Line.{Line}
-use Rattle.record_text.specs.declared.line.Line.TheVariants.{Console, Svc, Load, Start, Unload, ExitBoot, Bytes, Peek, PeekFault, MemmapKey, MemmapRow, Vars, Reset, Halt, End}
+use Rattle.record_text.specs.declared.line.Line.TheVariants.{Console, Svc, Load, Start, Unload, ExitBoot, CheckYes, CheckNo, CheckCert, MapAccepted, MapRefused, Call, CallTrap, CallBound, CallEarly, Bytes, Peek, PeekFault, MemmapKey, MemmapRow, Vars, Reset, Halt, End}
 
 infixl 10 ◌>>=◌
 abbrev pub ◌>>=◌ : {A B : Type 0} → Option A → (A → Option B) → Option B
@@ -112,13 +115,88 @@ halt_of text = do
   h1 ← hexadecimal_number first.1
   Some (Halt cause h0 h1)
 
+-- ---- checks: behind the name yes, or a word, a name and a number
+
+unfoldable pub by_verdict : List ℕ → List ℕ → List ℕ → ℕ → Option Line
+by_verdict name verdict word n =
+    if bytes_eq verdict (codes "no") then (rule_of word >>= λ rule. Some (CheckNo name rule n))
+    else (if bytes_eq verdict (codes "cert") then (part_of word >>= λ part. Some (CheckCert name part n)) else None)
+
+unfoldable pub not_passed : List ℕ → List ℕ → List ℕ → Option Line
+not_passed name verdict text = do
+  word ← cut text
+  n ← small_number word.1
+  by_verdict name verdict word.0 n
+
+abbrev pub verdict_by : List ℕ → List ℕ → Option (List ℕ × List ℕ) → Option Line
+verdict_by name text None = if bytes_eq text (codes "yes") then Some (CheckYes name) else None
+verdict_by name text (Some parts) = not_passed name parts.0 parts.1
+
+unfoldable pub verdict_of : List ℕ → List ℕ → Option Line
+verdict_of name text = verdict_by name text (cut text)
+
+unfoldable pub check_of : List ℕ → Option Line
+check_of text = cut text >>= λ name. verdict_of name.0 name.1
+
+-- ---- maps
+
+unfoldable pub mapped_by : List ℕ → List ℕ → Option Line
+mapped_by word text =
+    if bytes_eq word (codes "accepted") then (number_of text >>= λ steps. Some (MapAccepted steps))
+    else (if bytes_eq word (codes "refused") then (fault_of text >>= λ fault. Some (MapRefused fault)) else None)
+
+unfoldable pub map_of : List ℕ → Option Line
+map_of text = cut text >>= λ word. mapped_by word.0 word.1
+
+-- ---- calls: behind the name a value, or a word that says how the call ended
+
+unfoldable pub returned_of : List ℕ → ℕ → List ℕ → Option Line
+returned_of name h0 text = number_of text >>= λ steps. Some (Call name h0 steps)
+
+unfoldable pub trapped_of : List ℕ → List ℕ → Option Line
+trapped_of name text = do
+  word ← cut text
+  cause ← cause_of word.0
+  steps ← number_of word.1
+  Some (CallTrap name cause steps)
+
+unfoldable pub stopped_of : List ℕ → List ℕ → List ℕ → Option Line
+stopped_of name word text =
+    if bytes_eq word (codes "trap") then trapped_of name text
+    else (if bytes_eq word (codes "bound") then (number_of text >>= λ steps. Some (CallBound name steps)) else None)
+
+abbrev pub ended_by : List ℕ → List ℕ → List ℕ → Option ℕ → Option Line
+ended_by name word text None = stopped_of name word text
+ended_by name word text (Some h0) = returned_of name h0 text
+
+unfoldable pub ended_of : List ℕ → List ℕ → List ℕ → Option Line
+ended_of name word text = ended_by name word text (hexadecimal_number word)
+
+abbrev pub called_by : List ℕ → List ℕ → Option (List ℕ × List ℕ) → Option Line
+called_by name text None = if bytes_eq text (codes "early") then Some (CallEarly name) else None
+called_by name text (Some parts) = ended_of name parts.0 parts.1
+
+unfoldable pub called_of : List ℕ → List ℕ → Option Line
+called_of name text = called_by name text (cut text)
+
+unfoldable pub call_of : List ℕ → Option Line
+call_of text = cut text >>= λ name. called_of name.0 name.1
+
+-- ---- all lines
+
+unfoldable pub with_last_word : List ℕ → List ℕ → Option Line
+with_last_word word rest =
+    if bytes_eq word (codes "check") then check_of rest
+    else (if bytes_eq word (codes "map") then map_of rest
+    else (if bytes_eq word (codes "call") then call_of rest else None))
+
 unfoldable pub with_later_word : List ℕ → List ℕ → Option Line
 with_later_word word rest =
     if bytes_eq word (codes "unload") then unload_of rest
     else (if bytes_eq word (codes "exit_boot") then exit_boot_of rest
     else (if bytes_eq word (codes "bytes") then shown_of rest
     else (if bytes_eq word (codes "peek") then peek_of rest
-    else (if bytes_eq word (codes "vars") then vars_of rest else None))))
+    else (if bytes_eq word (codes "vars") then vars_of rest else with_last_word word rest))))
 
 unfoldable pub with_word : List ℕ → List ℕ → Option Line
 with_word word rest =

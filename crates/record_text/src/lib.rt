@@ -19,5 +19,9 @@ pub use image_reading::read_image_line;
 pub use image_writing::{push_decimal, push_image_line, push_place};
 pub use line::Line;
 pub use reading::read_line;
+pub use record_names::{
+    Fault, Part, Rule, fault_of, fault_text, faults_read_back, part_of, parts_read_back, rule_of,
+    rules_read_back,
+};
 pub use service::{service_name, service_slot, services_read_back};
 pub use writing::line_text;

@@ -1,5 +1,6 @@
 //! A line of output.
 use crate::cause::Cause;
+use record_names::{Fault, Part, Rule};
 use uh_base::{Bytes, Text};
 
 /// A line. Its fields `h0` and `h1` are the 16 hexadecimal digits of its text, from the left.
@@ -35,6 +36,51 @@ pub enum Line {
     /// `exit_boot STATUS`: boot services were ended, or not.
     ExitBoot {
         h0: u64,
+    },
+    /// `check NAME yes`: a certificate of an image was checked, and holds.
+    CheckYes {
+        name: Text,
+    },
+    /// `check NAME no RULE N`: the first rule that fails, and the number that the rule names.
+    CheckNo {
+        name: Text,
+        rule: Rule,
+        n: u32,
+    },
+    /// `check NAME cert PART N`: the text is no certificate; the first part at fault, and its number from 0.
+    CheckCert {
+        name: Text,
+        part: Part,
+        n: u32,
+    },
+    /// `map accepted STEPS`: the virtual address map was made; notified functions took so many steps.
+    MapAccepted {
+        steps: u64,
+    },
+    /// `map refused FAULT`: the virtual address map was refused, and nothing changed.
+    MapRefused {
+        fault: Fault,
+    },
+    /// `call NAME A0 STEPS`: a function of an image, or a service, returned. NAME is the image's or the service's.
+    Call {
+        name: Text,
+        h0: u64,
+        steps: u64,
+    },
+    /// `call NAME trap CAUSE STEPS`: an instruction of the call trapped.
+    CallTrap {
+        name: Text,
+        cause: Cause,
+        steps: u64,
+    },
+    /// `call NAME bound STEPS`: the call reached its bound.
+    CallBound {
+        name: Text,
+        steps: u64,
+    },
+    /// `call NAME early`: boot services last, or there is no such image.
+    CallEarly {
+        name: Text,
     },
     /// `bytes OFFSET HEX`: 1 to 4,096 bytes of the arguments of a call from an offset on, all below 65,536.
     Bytes {

@@ -6,6 +6,7 @@ ghost use Rattle.record_text.specs.Texts.{text_of};
 use crate::hex_bytes::bytes_text;
 use crate::line::Line;
 use crate::service::service_name;
+use record_names::fault_text;
 use std::alloc::{AllocError, Global};
 use uh_base::hex_text;
 
@@ -55,6 +56,29 @@ pub fn line_text(alloc: Global, line: &Line) -> Result<String, AllocError>
             let h0 = word(alloc, *h0)?;
             format!(in alloc; "exit_boot {}", h0.as_str())
         }
+        Line::CheckYes { name } => format!(in alloc; "check {} yes", name.as_str()),
+        Line::CheckNo { name, rule, n } => {
+            format!(in alloc; "check {} no {} {}", name.as_str(), rule.name(), *n)
+        }
+        Line::CheckCert { name, part, n } => {
+            format!(in alloc; "check {} cert {} {}", name.as_str(), part.name(), *n)
+        }
+        Line::MapAccepted { steps } => format!(in alloc; "map accepted {}", *steps),
+        Line::MapRefused { fault } => {
+            let fault = fault_text(alloc, *fault)?;
+            format!(in alloc; "map refused {}", fault.as_str())
+        }
+        Line::Call { name, h0, steps } => {
+            let h0 = word(alloc, *h0)?;
+            format!(in alloc; "call {} {} {}", name.as_str(), h0.as_str(), *steps)
+        }
+        Line::CallTrap { name, cause, steps } => {
+            format!(in alloc; "call {} trap {} {}", name.as_str(), cause.name(), *steps)
+        }
+        Line::CallBound { name, steps } => {
+            format!(in alloc; "call {} bound {}", name.as_str(), *steps)
+        }
+        Line::CallEarly { name } => format!(in alloc; "call {} early", name.as_str()),
         Line::Bytes { offset, hex } => {
             let hex = bytes_text(alloc, hex.as_slice())?;
             format!(in alloc; "bytes {} {}", *offset, hex.as_str())
