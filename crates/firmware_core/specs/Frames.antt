@@ -1,9 +1,10 @@
--- Ticks, the start of notifications, and frames.
+-- Ticks, the start of notifications and of images, and frames.
 use Rattle.std.specs.Prelude.{ℕ, ◌≡◌, ◌≤◌, ◌+◌, ◌-◌, ◌*◌, ◌%◌, nat_le, Bool, List, [], ◌∷◌, ◌++◌, length, take, replicate, Option, None, slice_get, slice_index, slice_set}
 use Rattle.page_alloc.specs.declared.layout.Layout.{Layout}
 use Rattle.event_queue.specs.declared.event.Notify.{Notify}
 use Rattle.event_queue.specs.Queue.{next_entry, notified, after_next}
 use Rattle.event_queue.specs.Timers.{has_moment, ticked, moment_ahead}
+use Rattle.image_services.specs.Images.{with_started}
 use Rattle.firmware_core.specs.declared.frame.Phase.TheVariants.{Called}
 use Rattle.firmware_core.specs.declared.frame.Purpose.{Purpose}
 use Rattle.firmware_core.specs.declared.frame.Purpose.TheVariants.{Notification}
@@ -46,6 +47,25 @@ return_address layout = layout.slots + 16 * 67
 abbrev pub registers_for : Layout → ℕ → ℕ → ℕ → List ℕ
 registers_for layout sp a0 a1 = slice_set (slice_set (slice_set (slice_set (replicate 32 0) 1 (return_address layout)) 2 sp) 10 a0) 11 a1
 
+-- A service answers in a0, which is register 10, and continues at ra, which is register 1.
+abbrev pub answered : Parts → ℕ → Parts
+answered f a0 = record f { hart = record { x = slice_set f.hart.x 10 a0; pc = slice_index f.hart.x 1; phase = Called; tpl = f.hart.tpl } }
+
+-- the stack pointer of the code that runs, rounded down to 16 (RISC-V psABI, the stack's alignment)
+abbrev pub aligned_stack : Parts → ℕ
+aligned_stack f = slice_index f.hart.x 2 - slice_index f.hart.x 2 % 16
+
+-- ---- images
+
+-- An image begins at its entry point, at the level of its caller. ra is slot 67, by which the firmware is returned to, a0 the
+-- image's handle and a1 the system table; every other register but sp is 0. It is started from then on. (UEFI 2.10, 2.3.7.1:
+-- handoff state)
+unfoldable pub with_image : Parts → Purpose → ℕ → ℕ → ℕ → Parts
+with_image f purpose handle sp entry =
+    record (pushed f purpose (record { x = registers_for f.runtime.layout sp handle f.runtime.layout.system; pc = entry; phase = Called; tpl = f.hart.tpl })) {
+      images = with_started f.images handle;
+    }
+
 -- ---- notifications
 
 -- the notification that comes next: the earliest of the greatest level above the present one
@@ -54,10 +74,6 @@ notice_of f = notified f.events.events (next_entry f.events.queue f.hart.tpl)
 
 abbrev pub without_notice : Parts → Parts
 without_notice f = record f { events = after_next f.events (next_entry f.events.queue f.hart.tpl) }
-
--- the stack pointer of the code that runs, rounded down to 16 (RISC-V psABI, the stack's alignment)
-abbrev pub aligned_stack : Parts → ℕ
-aligned_stack f = slice_index f.hart.x 2 - slice_index f.hart.x 2 % 16
 
 -- A notification's function begins at its event's level, with the event and its context. (UEFI 2.10, 7.1.1: EFI_EVENT_NOTIFY)
 unfoldable pub with_notification : Parts → Notify → Parts

@@ -3,8 +3,7 @@ use Rattle.std.specs.Prelude.{ℕ, zero, suc, ◌≡◌, ◌≢◌, ◌+◌, ◌
 use Rattle.record_text.specs.declared.line.Line.{Line}
 use Rattle.record_text.specs.declared.cause.Cause.TheVariants as causes
 use Rattle.event_queue.specs.Timers.{after_tick}
-use Rattle.image_services.specs.Images.{Loaded, find_image, with_started}
-use Rattle.firmware_core.specs.declared.frame.Phase.TheVariants.{Called}
+use Rattle.image_services.specs.Images.{Loaded, find_image}
 use Rattle.firmware_core.specs.declared.frame.Purpose.TheVariants as purposes
 use Rattle.firmware_core.specs.declared.happened.Happened.{Happened}
 use Rattle.firmware_core.specs.declared.happened.Happened.TheVariants.{Turned, Said, Left, Reset, Halted}
@@ -13,20 +12,14 @@ use Rattle.firmware_core.specs.declared.happened.JobEnd.TheVariants as ends
 use Rattle.firmware_core.specs.declared.job.Job as declared
 use Rattle.firmware_core.specs.declared.job.Job.TheVariants.{Start}
 use Rattle.firmware_core.specs.Parts.{Parts}
-use Rattle.firmware_core.specs.Frames.{pushed, registers_for}
+use Rattle.firmware_core.specs.Frames.{with_image}
 use Rattle.firmware_core.specs.Turns.{State, Turn, Next, Tick, Notice, Bound, Slot, Instruction, next_turn, turn_of}
 
 -- ---- the beginning
 
--- ra is slot 67, by which the firmware is returned to, sp the top of the boot stack, a0 the image's handle and a1 the
--- system table; every other register is 0. (UEFI 2.10, 2.3.7.1: handoff state)
-abbrev pub with_image : Parts → ℕ → ℕ → Parts
-with_image f handle entry =
-    pushed f (purposes.Job handle) (record { x = registers_for f.runtime.layout f.runtime.layout.boot handle f.runtime.layout.system; pc = entry; phase = Called; tpl = f.hart.tpl })
-
--- the machine with the image of a handle that begins at its entry point, for at most so many steps
+-- the machine with the image of a handle that begins at its entry point, on the boot stack, for at most so many steps
 unfoldable pub started : State → ℕ → ℕ → ℕ → State
-started s handle entry bound = record { firmware = record (with_image s.firmware handle entry) { images = with_started s.firmware.images handle }; steps = 0; bound = bound; trace = s.trace }
+started s handle entry bound = record { firmware = with_image s.firmware (purposes.Job handle) handle s.firmware.runtime.layout.boot entry; steps = 0; bound = bound; trace = s.trace }
 
 -- whether a job begins, and the machine behind that
 pub record Begun : Type 0 where

@@ -4,6 +4,7 @@ pub mod Opening
 pub mod Frames
 pub mod Services
 pub mod EventSlots
+pub mod ImageSlots
 pub mod Slots
 pub mod Turns
 pub mod Jobs

@@ -1,4 +1,4 @@
--- The load of an image into a machine.
+-- The load of an image into a machine, and its unload.
 use Rattle.std.specs.Prelude.{ℕ, List, Option, Some, None, Result, Ok, Err}
 use Rattle.uh_base.specs.Statuses.{success}
 use Rattle.event_queue.specs.Queue.{signal_each}
@@ -7,6 +7,8 @@ use Rattle.image_services.specs.Images.{Loaded, find_image}
 use Rattle.image_services.specs.Stores.{Store}
 use Rattle.image_services.specs.Loads.{Load, load_of}
 use Rattle.image_services.specs.Status.{load_status}
+use Rattle.image_services.specs.Unloads.{unloaded as image_unloaded}
+use Rattle.image_calls.specs.Loading as calls
 use Rattle.firmware_core.specs.Parts.{Parts}
 use Rattle.firmware_core.specs.Services.{store_of, with_store}
 use Rattle.firmware_core.specs.Turns.{State}
@@ -37,3 +39,15 @@ load_comes_to s (Err refusal) = record { status = load_status refusal; handle = 
 -- An image is loaded without a parent.
 unfoldable pub loaded : State → List ℕ → LoadDone
 loaded s file = load_comes_to s (load_of s.firmware.runtime.layout (store_of s.firmware) file 0)
+
+-- the status of an unload, and the machine behind it
+pub record UnloadDone : Type 0 where
+  pub status : ℕ
+  pub state : State
+
+abbrev pub unload_comes_to : State → calls.UnloadDone → UnloadDone
+unload_comes_to s done = record { status = done.status; state = record s { firmware = with_store s.firmware done.after } }
+
+-- An image that wasn't started goes, as by UnloadImage.
+unfoldable pub unloaded : State → ℕ → UnloadDone
+unloaded s handle = unload_comes_to s (calls.unloaded_to (store_of s.firmware) (image_unloaded (store_of s.firmware) handle))

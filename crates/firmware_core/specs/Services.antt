@@ -21,14 +21,17 @@ use Rattle.runtime_services.specs.Serving.{serve_runtime}
 use Rattle.image_services.specs.Images.{Loaded, find_image}
 use Rattle.image_services.specs.Stores.{Store}
 use Rattle.image_services.specs.Unloads.{discarded}
+use Rattle.image_calls.specs.Starts.{StartDone, outputs_given}
 use Rattle.virtual_map.specs.States.{Runtime}
+use Rattle.firmware_core.specs.declared.frame.Ending.{Ending}
 use Rattle.firmware_core.specs.declared.frame.Frame.{Frame}
 use Rattle.firmware_core.specs.declared.frame.Purpose.{Purpose}
-use Rattle.firmware_core.specs.declared.frame.Purpose.TheVariants.{Job, Notification}
+use Rattle.firmware_core.specs.declared.frame.Purpose.TheVariants.{Job, Image, Notification}
 use Rattle.firmware_core.specs.declared.conclusion.Conclusion.{Conclusion}
 use Rattle.firmware_core.specs.declared.conclusion.Conclusion.TheVariants.{Answers, Prints, Continues, Leaves, Resets, Halts}
+use Rattle.firmware_core.specs.Harts.{Hart}
 use Rattle.firmware_core.specs.Parts.{Parts}
-use Rattle.firmware_core.specs.Frames.{top_of, below_top}
+use Rattle.firmware_core.specs.Frames.{top_of, below_top, answered}
 
 -- what a service comes to, and the parts behind it
 pub record Concluded : Type 0 where
@@ -127,9 +130,9 @@ at_runtime slot f =
 abbrev pub at_reset : Parts → Concluded
 at_reset f = record { conclusion = Resets (low_word (given 0 f)) (given 1 f); firmware = f }
 
--- ---- the return of what runs
+-- ---- the end of what runs
 
--- An application, and a driver whose status is an error, is unloaded when it returns. (UEFI 2.10, 7.4: StartImage)
+-- An application, and a driver whose status is an error, is unloaded when it ends. (UEFI 2.10, 7.4: StartImage)
 abbrev pub stays : ℕ → ℕ → Bool
 stays subsystem status = not (subsystem == 10) && nat_lt status (2 ^ 63)
 
@@ -140,7 +143,7 @@ store_of f = record { images = f.images; memory = f.runtime.memory; pages = f.ru
 abbrev pub with_store : Parts → Store → Parts
 with_store f store = record (with_pages f store.memory store.pages) { pool = store.pool; images = store.images; protocols = store.protocols }
 
--- whether an image is unloaded when it returns with a status
+-- whether an image is unloaded when it ends with a status
 abbrev pub goes : ℕ → Option Loaded → Bool
 goes status None = false
 goes status (Some image) = not (stays image.subsystem status)
@@ -155,19 +158,42 @@ image_ended f handle status = if goes status (find_image f.images handle) then w
 abbrev pub with_level : Parts → ℕ → Parts
 with_level f tpl = record f { hart = record f.hart { tpl = tpl } }
 
--- Behind a notification the hart is as it was. The image of a job leaves with the status in a0, at the level of its start.
-unfoldable pub frame_ended : Parts → Frame → Concluded
-frame_ended f frame = by_purpose frame.purpose
+-- the hart as it was at the frame's start
+abbrev pub with_hart : Parts → Hart → Parts
+with_hart f back = record f { hart = back }
+
+-- StartImage answers, and its caller goes on.
+abbrev pub start_ended : Parts → StartDone → Concluded
+start_ended f done =
+    if done.served.frames then record { conclusion = Halts causes.Frames; firmware = with_memory f done.memory }
+    else record { conclusion = Continues; firmware = answered (with_memory f done.memory) done.served.value }
+
+-- The outputs of StartImage are written where its caller's registers name them.
+unfoldable pub with_outputs : Parts → Ending → Concluded
+with_outputs f e = start_ended f (outputs_given f.hart.x (see f.runtime.view) f.runtime.memory e.status e.size e.exit_data)
+
+-- Behind a notification the hart is as it was. The image of a job leaves with its status, at the level of its start. Behind an
+-- image that another one started, its starter goes on as it was, with the image unloaded before the outputs are written: so none
+-- is written in the pages of one that has gone.
+unfoldable pub frame_ended : Parts → Frame → Ending → Concluded
+frame_ended f frame ending = by_purpose frame.purpose
   where
     by_purpose : Purpose → Concluded
-    by_purpose Notification = record { conclusion = Continues; firmware = record f { hart = frame.back } }
-    by_purpose (Job handle) = record { conclusion = Leaves (given 0 f); firmware = image_ended (with_level f frame.back.tpl) handle (given 0 f) }
+    by_purpose Notification = record { conclusion = Continues; firmware = with_hart f frame.back }
+    by_purpose (Job handle) = record { conclusion = Leaves ending.status; firmware = image_ended (with_level f frame.back.tpl) handle ending.status }
+    by_purpose (Image handle) = with_outputs (image_ended (with_hart f frame.back) handle ending.status) ending
 
--- With no frame the slot is no service, so that it isn't come to.
-abbrev pub returned : Parts → Option Frame → Concluded
-returned f None = record { conclusion = Continues; firmware = f }
-returned f (Some frame) = frame_ended (record f { frames = below_top f.frames }) frame
+-- The innermost frame ends. With no frame no service ends one.
+abbrev pub ended : Parts → Option Frame → Ending → Concluded
+ended f None ending = record { conclusion = Continues; firmware = f }
+ended f (Some frame) ending = frame_ended (record f { frames = below_top f.frames }) frame ending
 
--- The innermost frame ends.
+abbrev pub top_ended : Parts → Ending → Concluded
+top_ended f ending = ended f (top_of f.frames) ending
+
+-- What returns has its status in a0, and no exit data.
+abbrev pub returning : Parts → Ending
+returning f = record { status = given 0 f; size = 0; exit_data = 0 }
+
 unfoldable pub at_return : Parts → Concluded
-at_return f = returned f (top_of f.frames)
+at_return f = top_ended f (returning f)

@@ -6,10 +6,12 @@ use Rattle.runtime_services.specs.Slots.{service_of as runtime_service_of}
 use Rattle.firmware_core.specs.declared.service.Service.{Service}
 use Rattle.firmware_core.specs.declared.service.Service.TheVariants as services
 use Rattle.firmware_core.specs.declared.event_service.EventService.{EventService}
+use Rattle.firmware_core.specs.declared.image_service.ImageService.{ImageService}
 use Rattle.firmware_core.specs.declared.conclusion.Conclusion.TheVariants.{Answers}
 use Rattle.firmware_core.specs.Parts.{Parts}
 use Rattle.firmware_core.specs.Services.{Concluded, at_allocate_pages, at_free_pages, at_get_memory_map, at_allocate_pool, at_free_pool, at_calculate_crc32, at_copy_mem, at_set_mem, at_output_string, at_test_string, at_set_mode, at_protocols, at_runtime, at_reset, at_return}
 use Rattle.firmware_core.specs.EventSlots.{event_service_of, serve_event}
+use Rattle.firmware_core.specs.ImageSlots.{image_service_of, serve_image}
 
 -- the service of any other slot: its place in the slot page, 16 bytes each, by this host's choice
 unfoldable pub service_of : ℕ → Service
@@ -52,8 +54,12 @@ serve services.Reset f = at_reset f
 serve services.Return f = at_return f
 serve services.Unbuilt f = record { conclusion = Answers unsupported; firmware = f }
 
+abbrev pub serve_image_or : ℕ → Parts → Option ImageService → Concluded
+serve_image_or slot f None = serve (service_of slot) f
+serve_image_or slot f (Some service) = serve_image service f
+
 abbrev pub serve_event_or : ℕ → Parts → Option EventService → Concluded
-serve_event_or slot f None = serve (service_of slot) f
+serve_event_or slot f None = serve_image_or slot f (image_service_of slot)
 serve_event_or slot f (Some service) = serve_event service f
 
 -- the service of a slot

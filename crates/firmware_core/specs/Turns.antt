@@ -1,5 +1,5 @@
 -- One turn of the machine.
-use Rattle.std.specs.Prelude.{ℕ, ◌+◌, ◌-◌, ◌*◌, ◌/◌, ◌%◌, ◌^◌, ◌==◌, ◌&&◌, ◌||◌, not, nat_le, nat_lt, min, Bool, length, Option, Some, None, slice_index, slice_set, if◌then◌else◌}
+use Rattle.std.specs.Prelude.{ℕ, ◌+◌, ◌-◌, ◌*◌, ◌/◌, ◌%◌, ◌^◌, ◌==◌, ◌&&◌, ◌||◌, not, nat_le, nat_lt, min, Bool, length, Option, Some, None, if◌then◌else◌}
 use Rattle.rv_step.specs.declared.bus.Access.TheVariants as access
 use Rattle.rv_step.specs.declared.ends.Trap.{Trap}
 use Rattle.rv_step.specs.declared.ends.Trap.TheVariants as traps
@@ -14,9 +14,8 @@ use Rattle.firmware_core.specs.declared.happened.Happened.TheVariants.{Turned, S
 use Rattle.firmware_core.specs.declared.conclusion.Conclusion.{Conclusion}
 use Rattle.firmware_core.specs.declared.conclusion.Conclusion.TheVariants.{Answers, Prints, Continues, Leaves, Resets, Halts}
 use Rattle.event_queue.specs.declared.event.Notify.{Notify}
-use Rattle.firmware_core.specs.declared.frame.Phase.TheVariants.{Called}
 use Rattle.firmware_core.specs.Parts.{Parts}
-use Rattle.firmware_core.specs.Frames.{tick_is_due, with_tick, notice_of, without_notice, is_full, with_notification}
+use Rattle.firmware_core.specs.Frames.{answered, tick_is_due, with_tick, notice_of, without_notice, is_full, with_notification}
 use Rattle.firmware_core.specs.Services.{Concluded}
 use Rattle.firmware_core.specs.Slots.{serve_slot}
 
@@ -100,10 +99,6 @@ notice_turn notify s =
     else record { happened = Turned; state = with_firmware s (with_notification (without_notice s.firmware) notify) }
 
 -- ---- a service
-
--- A service answers in a0, which is register 10, and continues at ra, which is register 1.
-abbrev pub answered : Parts → ℕ → Parts
-answered f a0 = record f { hart = record { x = slice_set f.hart.x 10 a0; pc = slice_index f.hart.x 1; phase = Called; tpl = f.hart.tpl } }
 
 -- An answer is a line where it is asked for.
 abbrev pub told : State → ℕ → ℕ → Happened

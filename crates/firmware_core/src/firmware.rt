@@ -4,10 +4,8 @@ ghost use Rattle.page_alloc.specs.Layout.{IsRam};
 ghost use Rattle.rv_step.specs.declared.ends.StepEnd.TheVariants as ends;
 ghost use Rattle.firmware_core.specs.Opening.{opened};
 ghost use Rattle.firmware_core.specs.Parts.{Whole};
-ghost use Rattle.image_services.specs.Images.{with_started};
-ghost use Rattle.firmware_core.specs.Jobs.{with_image};
-ghost use Rattle.firmware_core.specs.Frames.{tick_is_due, with_tick, is_full, pushed, registers_for, notice_of, without_notice, with_notification};
-ghost use Rattle.firmware_core.specs.Turns.{slot_at, answered, passed, Instructed, instructed};
+ghost use Rattle.firmware_core.specs.Frames.{answered, aligned_stack, with_image, tick_is_due, with_tick, is_full, pushed, registers_for, notice_of, without_notice, with_notification};
+ghost use Rattle.firmware_core.specs.Turns.{slot_at, passed, Instructed, instructed};
 
 use crate::frame::{Frame, Hart, Phase, Purpose};
 use crate::opening::{layout_spreads, runtime_at, with_console};
@@ -174,20 +172,34 @@ impl Firmware {
         Ok(())
     }
 
-    /// Begins the image of a handle at its entry point, for a job.
-    #[tactic(auto, unfolding(crate::specs::Jobs::started))]
-    pub(crate) fn start(&mut self, handle: u64, entry: u64) -> Result<(), AllocError>
-        ensures { OnOk result (self.new ≡ record (with_image self.old handle entry) { images = with_started self.old.images handle }) }
+    /// The stack pointer of the code that runs, rounded down to 16.
+    pub(crate) fn aligned_stack(&self) -> u64
+        ensures { result ≡ aligned_stack self.now }
+    {
+        let regs = &self.hart.regs;
+        let sp = regs.x[2];
+        sp - sp % 16
+    }
+
+    /// Begins the image of a handle at its entry point, on a stack.
+    #[tactic(auto, unfolding(crate::specs::Frames::with_image))]
+    pub(crate) fn start(
+        &mut self,
+        purpose: Purpose,
+        handle: u64,
+        sp: u64,
+        entry: u64,
+    ) -> Result<(), AllocError>
+        ensures { OnOk result (self.new ≡ with_image self.old purpose handle sp entry) }
     {
         let runtime = &self.runtime;
-        let (boot, system) = (runtime.layout.boot, runtime.layout.system);
-        let x = self.registers_for(boot, handle, system);
+        let x = self.registers_for(sp, handle, runtime.layout.system);
         let hart = Hart {
             regs: Regs { x, pc: entry },
             phase: Phase::Called,
             tpl: self.hart.tpl,
         };
-        self.push(Purpose::Job(handle), hart)?;
+        self.push(purpose, hart)?;
         self.images.mark(handle);
         Ok(())
     }
@@ -246,8 +258,7 @@ impl Firmware {
     pub(crate) fn notify(&mut self, notify: Notify) -> Result<(), AllocError>
         ensures { OnOk result (self.new ≡ with_notification self.old notify) }
     {
-        let sp = self.hart.regs.x[2];
-        let x = self.registers_for(sp - sp % 16, notify.event, notify.context);
+        let x = self.registers_for(self.aligned_stack(), notify.event, notify.context);
         let hart = Hart {
             regs: Regs {
                 x,

@@ -35,8 +35,20 @@ impl Model for Hart {
 pub enum Purpose {
     /// A job, which runs the image of this handle.
     Job(u64),
+    /// StartImage, which runs the image of this handle for the code that called it.
+    Image(u64),
     /// The notification of an event.
     Notification,
+}
+
+/// What an image ends with.
+#[derive(Clone, Copy, Debug, PartialEq, Eq, Drop)]
+pub struct Ending {
+    pub status: u64,
+    /// The size of its exit data, in bytes.
+    pub size: u64,
+    /// The address of its exit data.
+    pub exit_data: u64,
 }
 
 /// What runs, and the hart as it was before.

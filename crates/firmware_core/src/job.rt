@@ -7,6 +7,7 @@ ghost use Rattle.firmware_core.specs.Jobs.{fresh_entry, begun, started, Says};
 ghost use Rattle.firmware_core.specs.Views.{potential};
 
 use crate::firmware::Firmware;
+use crate::frame::Purpose;
 use crate::happened::Happened;
 use crate::laws::jobs_are_turns;
 use crate::machine::Machine;
@@ -27,7 +28,10 @@ impl Machine {
     fn start(&mut self, handle: u64, entry: u64, bound: u64) -> Result<(), AllocError>
         ensures { OnOk result (self.new ≡ started self.old handle entry bound) }
     {
-        self.firmware.start(handle, entry)?;
+        let runtime = &self.firmware.runtime;
+        let boot = runtime.layout.boot;
+        self.firmware
+            .start(Purpose::Job(handle), handle, boot, entry)?;
         self.steps = 0;
         self.bound = bound;
         Ok(())

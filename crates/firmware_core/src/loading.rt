@@ -1,14 +1,16 @@
-//! The load of an image into a machine.
-ghost use Rattle.std.specs.Prelude.{◌≡◌, ◌≤◌, IfOk, length};
+//! The load of an image into a machine, and its unload.
+ghost use Rattle.std.specs.Prelude.{◌≡◌, ◌≤◌, IfOk, true, length};
+ghost use Rattle.std.specs.Result.{is_ok};
 ghost use Rattle.image_services.specs.Loads.{load_of};
-ghost use Rattle.image_services.specs.Views.{LoadGives};
+ghost use Rattle.image_services.specs.Unloads.{unloaded as image_unloaded};
+ghost use Rattle.image_services.specs.Views.{LoadGives, UnloadGives};
 ghost use Rattle.firmware_core.specs.Services.{store_of, with_store};
-ghost use Rattle.firmware_core.specs.Loads.{signalled, loaded};
+ghost use Rattle.firmware_core.specs.Loads.{signalled, loaded, unloaded};
 
 use crate::firmware::Firmware;
 use crate::machine::Machine;
 use address_view::CodePage;
-use image_services::{LoadRefusal, load_image};
+use image_services::{LoadRefusal, UnloadRefusal, load_image, unload_image};
 use protocol_db::Installed;
 use std::alloc::{AllocError, Global};
 use uh_base::EfiStatus;
@@ -36,6 +38,30 @@ impl Firmware {
             protocols,
             file,
             0,
+        )
+    }
+}
+
+impl Firmware {
+    /// Unloads the image of a handle, unless it was started.
+    fn try_unload(&mut self, handle: u64) -> Result<(), UnloadRefusal>
+        ensures gives { UnloadGives result (image_unloaded (store_of self.old) handle) (store_of self.old) (store_of self.new) }
+        ensures rest { self.new ≡ with_store self.old (store_of self.new) }
+    {
+        self.whole();
+        self.code = CodePage::none();
+        let images = &mut self.images;
+        let pool = &mut self.pool;
+        let protocols = &mut self.protocols;
+        let runtime = &mut self.runtime;
+        unload_image(
+            images,
+            &runtime.layout,
+            &mut runtime.memory,
+            &mut runtime.pages,
+            pool,
+            protocols,
+            handle,
         )
     }
 }
@@ -86,5 +112,19 @@ pub fn load(
         Err(LoadRefusal::NoPages) => Ok(refused(LoadRefusal::NoPages.status())),
         Err(LoadRefusal::Full) => Ok(refused(LoadRefusal::Full.status())),
         Err(LoadRefusal::Frames) => Ok(refused(LoadRefusal::Frames.status())),
+    }
+}
+
+/// Unloads the image of a handle, and answers the status: EFI_INVALID_PARAMETER where no loaded image has the handle, and
+/// EFI_UNSUPPORTED where the image was started; then nothing changes. It never lacks memory.
+#[tactic(auto, unfolding(crate::specs::Loads::unloaded))]
+pub fn unload(machine: &mut Machine, handle: u64) -> Result<EfiStatus, AllocError>
+    ensures unload { IfOk result (λ status. record { status = status.0; state = machine.new } ≡ unloaded machine.old handle) }
+    ensures answers { is_ok result ≡ true }
+{
+    match machine.firmware.try_unload(handle) {
+        Ok(()) => Ok(EfiStatus::SUCCESS),
+        Err(UnloadRefusal::Unknown) => Ok(EfiStatus::INVALID_PARAMETER),
+        Err(UnloadRefusal::Started) => Ok(EfiStatus::UNSUPPORTED),
     }
 }

@@ -1,15 +1,19 @@
-//! The return of what runs.
-ghost use Rattle.std.specs.Prelude.{◌≡◌};
+//! The end of what runs.
+ghost use Rattle.std.specs.Prelude.{◌≡◌, IfOk};
 ghost use Rattle.image_services.specs.Images.{find_image};
-ghost use Rattle.firmware_core.specs.Services.{stays, goes, without_image, image_ended, frame_ended, at_return};
+ghost use Rattle.firmware_core.specs.Services.{stays, goes, without_image, image_ended, start_ended, with_outputs, frame_ended, top_ended, at_return};
 
 use crate::conclusion::Conclusion;
 use crate::firmware::Firmware;
-use crate::frame::{Frame, Purpose};
+use crate::frame::{Ending, Frame, Purpose};
 use address_view::CodePage;
+use image_calls::outputs_given;
 use image_services::discard_image;
+use record_text::Cause;
+use service_answer::Served;
+use std::alloc::{AllocError, Global};
 
-/// Whether an image of a subsystem stays when it returns with a status.
+/// Whether an image of a subsystem stays when it ends with a status.
 fn stays(subsystem: u16, status: u64) -> bool
     ensures { result ≡ stays subsystem status }
 {
@@ -18,7 +22,7 @@ fn stays(subsystem: u16, status: u64) -> bool
 
 impl Firmware {
     /// Unloads an image.
-    fn unload(&mut self, handle: u64)
+    pub(crate) fn unload(&mut self, handle: u64)
         ensures { self.new ≡ without_image self.old handle }
     {
         self.whole();
@@ -38,7 +42,7 @@ impl Firmware {
         );
     }
 
-    /// Whether an image is unloaded when it returns with a status.
+    /// Whether an image is unloaded when it ends with a status.
     fn goes(&self, status: u64, handle: u64) -> bool
         ensures { result ≡ goes status (find_image self.now.images handle) }
     {
@@ -57,34 +61,89 @@ impl Firmware {
         }
     }
 
+    /// Writes the outputs of StartImage, gives the memory back, and answers its caller.
+    #[tactic(auto, unfolding(crate::specs::Services::with_outputs))]
+    fn give_outputs(&mut self, alloc: Global, ending: Ending) -> Result<Conclusion, AllocError>
+        ensures { IfOk result (λ c. record { conclusion = c; firmware = self.new } ≡ with_outputs self.old ending) }
+    {
+        self.whole();
+        self.code = CodePage::none();
+        let Ending {
+            status,
+            size,
+            exit_data,
+        } = ending;
+        let regs = &self.hart.regs;
+        let runtime = &mut self.runtime;
+        let served = outputs_given(
+            alloc,
+            &regs.x,
+            &runtime.view,
+            &mut runtime.memory,
+            status,
+            size,
+            exit_data,
+        )?;
+        if served.frames {
+            return Ok(Conclusion::Halts(Cause::Frames));
+        }
+        self.answer(served.value);
+        Ok(Conclusion::Continues)
+    }
+
     /// Ends a frame that was taken.
     #[tactic(auto, unfolding(crate::specs::Services::frame_ended))]
-    fn end_frame(&mut self, frame: Frame) -> Conclusion
-        ensures { record { conclusion = result; firmware = self.new } ≡ frame_ended self.old frame }
+    fn end_frame(
+        &mut self,
+        alloc: Global,
+        frame: Frame,
+        ending: Ending,
+    ) -> Result<Conclusion, AllocError>
+        ensures { IfOk result (λ c. record { conclusion = c; firmware = self.new } ≡ frame_ended self.old frame ending) }
     {
         let Frame { purpose, back } = frame;
         match purpose {
             Purpose::Notification => {
                 self.hart = back;
-                Conclusion::Continues
+                Ok(Conclusion::Continues)
             }
             Purpose::Job(handle) => {
-                let status = self.given(0);
                 self.hart.tpl = back.tpl;
-                self.end_image(handle, status);
-                Conclusion::Leaves(status)
+                self.end_image(handle, ending.status);
+                Ok(Conclusion::Leaves(ending.status))
             }
+            Purpose::Image(handle) => {
+                self.hart = back;
+                self.end_image(handle, ending.status);
+                self.give_outputs(alloc, ending)
+            }
+        }
+    }
+
+    /// Ends the innermost frame.
+    pub(crate) fn end_top(
+        &mut self,
+        alloc: Global,
+        ending: Ending,
+    ) -> Result<Conclusion, AllocError>
+        ensures { IfOk result (λ c. record { conclusion = c; firmware = self.new } ≡ top_ended self.old ending) }
+    {
+        match self.frames.pop() {
+            Some(frame) => self.end_frame(alloc, frame, ending),
+            None => Ok(Conclusion::Continues),
         }
     }
 
     /// The return of the innermost frame.
     #[tactic(auto, unfolding(crate::specs::Services::at_return))]
-    pub(crate) fn at_return(&mut self) -> Conclusion
-        ensures { record { conclusion = result; firmware = self.new } ≡ at_return self.old }
+    pub(crate) fn at_return(&mut self, alloc: Global) -> Result<Conclusion, AllocError>
+        ensures { IfOk result (λ c. record { conclusion = c; firmware = self.new } ≡ at_return self.old) }
     {
-        match self.frames.pop() {
-            Some(frame) => self.end_frame(frame),
-            None => Conclusion::Continues,
-        }
+        let ending = Ending {
+            status: self.given(0),
+            size: 0,
+            exit_data: 0,
+        };
+        self.end_top(alloc, ending)
     }
 }

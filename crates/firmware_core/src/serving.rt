@@ -204,7 +204,7 @@ impl Firmware {
 
     /// Gives what a service came to, and signals its events.
     #[tactic(auto, unfolding(crate::specs::Services::announced))]
-    fn announce(&mut self, answer: &Served) -> Conclusion
+    pub(crate) fn announce(&mut self, answer: &Served) -> Conclusion
         ensures { record { conclusion = result; firmware = self.new } ≡ announced self.old answer.now }
     {
         self.events.signal_all(answer.events.as_slice());

@@ -5,6 +5,7 @@ ghost use Rattle.firmware_core.specs.Slots.{serve, serve_slot};
 use crate::conclusion::Conclusion;
 use crate::event_service::event_service_of;
 use crate::firmware::Firmware;
+use crate::image_service::image_service_of;
 use crate::service::{Service, service_of};
 use protocol_services::is_protocol_slot;
 use runtime_services::RuntimeService;
@@ -23,6 +24,8 @@ impl Firmware {
             self.at_runtime(alloc, slot)
         } else if let Some(service) = event_service_of(slot) {
             self.serve_event(alloc, service)
+        } else if let Some(service) = image_service_of(slot) {
+            self.serve_image(alloc, service)
         } else {
             self.serve(alloc, service_of(slot))
         }
@@ -47,7 +50,7 @@ impl Firmware {
             Service::SetMode => Ok(self.at_set_mode()),
             Service::Screen => Ok(Conclusion::Answers(EfiStatus::SUCCESS.0)),
             Service::Reset => Ok(self.at_reset()),
-            Service::Return => Ok(self.at_return()),
+            Service::Return => self.at_return(alloc),
             Service::Unbuilt => Ok(Conclusion::Answers(EfiStatus::UNSUPPORTED.0)),
         }
     }
