@@ -172,16 +172,23 @@ start_ended f done =
 unfoldable pub with_outputs : Parts → Ending → Concluded
 with_outputs f e = start_ended f (outputs_given f.hart.x (see f.runtime.view) f.runtime.memory e.status e.size e.exit_data)
 
--- Behind a notification the hart is as it was. The image of a job leaves with its status, at the level of its start. Behind an
--- image that another one started, its starter goes on as it was, with the image unloaded before the outputs are written: so none
--- is written in the pages of one that has gone.
+-- The image of a job leaves with its status, at the level of its start.
+abbrev pub job_ended : Parts → ℕ → ℕ → ℕ → Concluded
+job_ended f handle tpl status = record { conclusion = Leaves status; firmware = image_ended (with_level f tpl) handle status }
+
+-- Behind an image that another one started, the starter goes on as it was. The image is unloaded before the outputs are written:
+-- so none is written in the pages of one that has gone.
+abbrev pub started_ended : Parts → ℕ → Hart → Ending → Concluded
+started_ended f handle back ending = with_outputs (image_ended (with_hart f back) handle ending.status) ending
+
+-- Behind a notification the hart is as it was.
 unfoldable pub frame_ended : Parts → Frame → Ending → Concluded
 frame_ended f frame ending = by_purpose frame.purpose
   where
     by_purpose : Purpose → Concluded
     by_purpose Notification = record { conclusion = Continues; firmware = with_hart f frame.back }
-    by_purpose (Job handle) = record { conclusion = Leaves ending.status; firmware = image_ended (with_level f frame.back.tpl) handle ending.status }
-    by_purpose (Image handle) = with_outputs (image_ended (with_hart f frame.back) handle ending.status) ending
+    by_purpose (Job handle) = job_ended f handle frame.back.tpl ending.status
+    by_purpose (Image handle) = started_ended f handle frame.back ending
 
 -- The innermost frame ends. With no frame no service ends one.
 abbrev pub ended : Parts → Option Frame → Ending → Concluded

@@ -1,11 +1,11 @@
 //! The end of what runs.
 ghost use Rattle.std.specs.Prelude.{◌≡◌, IfOk};
 ghost use Rattle.image_services.specs.Images.{find_image};
-ghost use Rattle.firmware_core.specs.Services.{stays, goes, without_image, image_ended, start_ended, with_outputs, frame_ended, top_ended, at_return};
+ghost use Rattle.firmware_core.specs.Services.{stays, goes, without_image, image_ended, with_outputs, job_ended, started_ended, frame_ended, top_ended, at_return};
 
 use crate::conclusion::Conclusion;
 use crate::firmware::Firmware;
-use crate::frame::{Ending, Frame, Purpose};
+use crate::frame::{Ending, Frame, Hart, Purpose};
 use address_view::CodePage;
 use image_calls::outputs_given;
 use image_services::discard_image;
@@ -91,6 +91,30 @@ impl Firmware {
         Ok(Conclusion::Continues)
     }
 
+    /// Ends the image of a job, at the level of its start.
+    fn end_job(&mut self, handle: u64, tpl: u8, status: u64) -> Conclusion
+        ensures { record { conclusion = result; firmware = self.new } ≡ job_ended self.old handle tpl status }
+    {
+        self.hart.tpl = tpl;
+        self.end_image(handle, status);
+        Conclusion::Leaves(status)
+    }
+
+    /// Ends an image that another one started, whose hart was this one.
+    fn end_started(
+        &mut self,
+        alloc: Global,
+        handle: u64,
+        back: Hart,
+        ending: Ending,
+    ) -> Result<Conclusion, AllocError>
+        ensures { IfOk result (λ c. record { conclusion = c; firmware = self.new } ≡ started_ended self.old handle back ending) }
+    {
+        self.hart = back;
+        self.end_image(handle, ending.status);
+        self.give_outputs(alloc, ending)
+    }
+
     /// Ends a frame that was taken.
     #[tactic(auto, unfolding(crate::specs::Services::frame_ended))]
     fn end_frame(
@@ -107,16 +131,8 @@ impl Firmware {
                 self.hart = back;
                 Ok(Conclusion::Continues)
             }
-            Purpose::Job(handle) => {
-                self.hart.tpl = back.tpl;
-                self.end_image(handle, ending.status);
-                Ok(Conclusion::Leaves(ending.status))
-            }
-            Purpose::Image(handle) => {
-                self.hart = back;
-                self.end_image(handle, ending.status);
-                self.give_outputs(alloc, ending)
-            }
+            Purpose::Job(handle) => Ok(self.end_job(handle, back.tpl, ending.status)),
+            Purpose::Image(handle) => self.end_started(alloc, handle, back, ending),
         }
     }
 

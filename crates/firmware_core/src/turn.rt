@@ -130,7 +130,8 @@ impl Machine {
 
 /// Makes one turn: a tick where one is due, else the start of the notification that comes next, else a service where the program
 /// counter is at its slot, else an instruction, unless the bound of the job is reached. A turn that halts leaves the parts as they
-/// were. After want of memory the machine may only be dropped.
+/// were, but for the end of an image whose starter's outputs lack frames: it has gone by then. After want of memory the machine
+/// may only be dropped.
 pub fn step_machine(alloc: Global, machine: &mut Machine) -> Result<Happened, AllocError>
     ensures { IfOk result (λ h. record { happened = h; state = machine.new } ≡ turn_of machine.old) }
 {
