@@ -5,3 +5,4 @@ pub mod JobLemmas
 pub mod SilentLemmas
 pub mod NearerLemmas
 pub mod PartLemmas
+pub mod CallLemmas

@@ -51,6 +51,7 @@ at_start_image f = start_by f (start_asked f.hart.x (see f.runtime.view) f.runti
 abbrev pub image_of : Purpose → Option ℕ
 image_of (purposes.Job handle) = Some handle
 image_of (purposes.Image handle) = Some handle
+image_of purposes.Call = None
 image_of purposes.Notification = None
 
 -- the image that runs: that of the innermost frame, if that is an image's

@@ -7,6 +7,7 @@ pub mod EventSlots
 pub mod ImageSlots
 pub mod Slots
 pub mod Turns
+pub mod Calls
 pub mod Jobs
 pub mod Loads
 pub mod Views

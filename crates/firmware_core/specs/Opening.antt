@@ -1,5 +1,5 @@
 -- The machine at opening.
-use Rattle.std.specs.Prelude.{ℕ, ◌+◌, ◌*◌, ◌/◌, ◌-◌, List, [], ◌∷◌, false, true, replicate}
+use Rattle.std.specs.Prelude.{ℕ, ◌+◌, ◌*◌, ◌/◌, ◌-◌, List, [], ◌∷◌, false, true, replicate, None}
 use Rattle.guest_memory.specs.declared.rights.Rights.{Rights}
 use Rattle.guest_memory.specs.Pages.{Pages, all_rights}
 use Rattle.guest_memory.specs.Changes.{reserved, with_rights}
@@ -65,7 +65,7 @@ with_console layout = record {
 }
 
 -- Every register is 0, the level is TPL_APPLICATION, 4, no image is loaded, the pool has no block, and there is no event but
--- tick moments. The monotonic count is 0.
+-- tick moments. The monotonic count is 0, and no call has returned.
 unfoldable pub opened : ℕ → ℕ → List ℕ → ClockState → List Entry → Parts
 opened base pages ticks clock variables = record {
   hart = record { x = replicate 32 0; pc = 0; phase = Called; tpl = 4 };
@@ -79,4 +79,5 @@ opened base pages ticks clock variables = record {
   variables = variables;
   clock = clock;
   count = 0;
+  returned = None;
 }

@@ -1,5 +1,5 @@
 -- The parts of a machine.
-use Rattle.std.specs.Prelude.{ℕ, ◌≡◌, ◌+◌, ◌*◌, ◌^◌, ◌≤◌, List}
+use Rattle.std.specs.Prelude.{ℕ, ◌≡◌, ◌+◌, ◌*◌, ◌^◌, ◌≤◌, List, Option}
 use Rattle.page_alloc.specs.declared.layout.Layout.{Layout}
 use Rattle.pool_alloc.specs.Pool.{BlockPage, Together}
 use Rattle.protocol_db.specs.Registrations.{Protocols}
@@ -30,6 +30,8 @@ pub record Parts : Type 0 where
   pub variables : List Entry
   pub clock : ClockState
   pub count : ℕ
+  -- a0 at the end of the last call by the host, until it is taken
+  pub returned : Option ℕ
 
 -- the parts belong together
 pub record Whole (f : Parts) : Type 0 where

@@ -40,6 +40,8 @@ pub struct Firmware {
     pub(crate) clock: Clock,
     /// The monotonic count.
     pub(crate) count: u64,
+    /// a0 at the end of the last call by the host, until it is taken.
+    pub(crate) returned: Option<u64>,
     /// What words were read as.
     pub(crate) known: KnownWords,
     /// The page that the last instruction was fetched from. Whatever changes memory's rights forgets it.
@@ -53,9 +55,9 @@ impl Model for Firmware {
 
     ghost Value = { Parts };
 
-    ghost view = { λ f. record { hart = f.hart; frames = f.frames.items; time = f.time; runtime = f.runtime; pool = f.pool; images = f.images; protocols = f.protocols; events = f.events; variables = f.variables; clock = f.clock; count = f.count } };
+    ghost view = { λ f. record { hart = f.hart; frames = f.frames.items; time = f.time; runtime = f.runtime; pool = f.pool; images = f.images; protocols = f.protocols; events = f.events; variables = f.variables; clock = f.clock; count = f.count; returned = f.returned } };
 
-    ghost invariant = { λ f. Whole (record { hart = f.hart; frames = f.frames.items; time = f.time; runtime = f.runtime; pool = f.pool; images = f.images; protocols = f.protocols; events = f.events; variables = f.variables; clock = f.clock; count = f.count }) × IsCode (see f.runtime.view) f.runtime.memory f.code };
+    ghost invariant = { λ f. Whole (record { hart = f.hart; frames = f.frames.items; time = f.time; runtime = f.runtime; pool = f.pool; images = f.images; protocols = f.protocols; events = f.events; variables = f.variables; clock = f.clock; count = f.count; returned = f.returned }) × IsCode (see f.runtime.view) f.runtime.memory f.code };
 }
 
 /// The most frames that stand, by this host's choice.
@@ -98,6 +100,7 @@ impl Firmware {
             variables,
             clock,
             count: 0,
+            returned: None,
             known,
             code: CodePage::none(),
         })
@@ -149,7 +152,7 @@ impl Firmware {
     }
 
     /// What code begins with: its return address, its stack and two arguments.
-    fn registers_for(&self, sp: u64, a0: u64, a1: u64) -> [u64; 32]
+    pub(crate) fn registers_for(&self, sp: u64, a0: u64, a1: u64) -> [u64; 32]
         ensures { result ≡ registers_for self.now.runtime.layout sp a0 a1 }
     {
         self.whole();
@@ -164,7 +167,7 @@ impl Firmware {
     }
 
     /// Begins other code. Its caller is kept.
-    fn push(&mut self, purpose: Purpose, hart: Hart) -> Result<(), AllocError>
+    pub(crate) fn push(&mut self, purpose: Purpose, hart: Hart) -> Result<(), AllocError>
         ensures { OnOk result (self.new ≡ pushed self.old purpose hart) }
     {
         let back = replace(&mut self.hart, hart);

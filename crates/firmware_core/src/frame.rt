@@ -37,6 +37,8 @@ pub enum Purpose {
     Job(u64),
     /// StartImage, which runs the image of this handle for the code that called it.
     Image(u64),
+    /// A call of guest code by the host, at a slot that comes again behind it.
+    Call,
     /// The notification of an event.
     Notification,
 }

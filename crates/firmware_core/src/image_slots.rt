@@ -19,6 +19,7 @@ fn image_of(purpose: Purpose) -> Option<u64>
     match purpose {
         Purpose::Job(handle) => Some(handle),
         Purpose::Image(handle) => Some(handle),
+        Purpose::Call => None,
         Purpose::Notification => None,
     }
 }

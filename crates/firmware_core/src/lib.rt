@@ -4,6 +4,7 @@
 //! its slot, or one instruction.
 #![tactic(auto)]
 
+mod calls;
 mod conclusion;
 mod event_service;
 mod event_slots;

@@ -131,6 +131,11 @@ impl Firmware {
                 self.hart = back;
                 Ok(Conclusion::Continues)
             }
+            Purpose::Call => {
+                self.hart = back;
+                self.returned = Some(ending.status);
+                Ok(Conclusion::Continues)
+            }
             Purpose::Job(handle) => Ok(self.end_job(handle, back.tpl, ending.status)),
             Purpose::Image(handle) => self.end_started(alloc, handle, back, ending),
         }

@@ -40,7 +40,7 @@ impl Machine {
     }
 
     /// Gives what a service called at a slot and a program counter came to.
-    fn conclude(&mut self, slot: u8, pc: u64, conclusion: Conclusion) -> Happened
+    pub(crate) fn conclude(&mut self, slot: u8, pc: u64, conclusion: Conclusion) -> Happened
         requires { self.old.steps < self.old.bound }
         ensures { record { happened = result; state = self.new } ≡ comes_to slot pc self.old conclusion self.old.firmware }
     {
