@@ -1,0 +1,17 @@
+//! Whether a driver and its certificate meet the rules under which the driver runs on, wherever its memory is mapped.
+#![tactic(auto)]
+
+mod accesses;
+mod asked;
+mod branches;
+mod check;
+mod edges;
+mod ground;
+mod jumps;
+mod order;
+mod reading;
+mod registers;
+mod rule;
+
+pub use ground::{Ground, PageRights};
+pub use rule::Rule;
