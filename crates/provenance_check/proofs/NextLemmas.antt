@@ -1,6 +1,6 @@
 -- Edges by how many nodes NEXT names.
 use Rattle.std.proofs.Common.{◌≡◌, ◌∙◌, ℕ, suc, ◌==◌, Bool, true, false, refl, sym, List, [], ◌∷◌, length, ap, arith}
-use Rattle.std.specs.Prelude.{◌&&◌, nat_eq, slice_get, slice_index}
+use Rattle.std.specs.Prelude.{◌&&◌, slice_get, slice_index}
 use Rattle.std.proofs.lemmas.Bool.Decides.{nat_tests}
 use Rattle.prov_cert.specs.Cert.{Node}
 use Rattle.provenance_check.specs.Rules.{edges, serves}

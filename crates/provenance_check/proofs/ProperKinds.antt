@@ -1,7 +1,6 @@
 -- What is known of registers has proper kinds.
-use Rattle.std.proofs.Common.{◌≡◌, ℕ, zero, suc, ◌<◌, ◌==◌, arith, Bool, true, false, refl, sym, ◌∙◌, ap, subst, Some, List, [], ◌∷◌}
-use Rattle.std.specs.Prelude.{if◌then◌else◌, slice_get, slice_set, slice_index_or, nat_eq, replicate}
-use Rattle.std.proofs.lemmas.Bool.Decides.{nat_tests}
+use Rattle.std.proofs.Common.{ℕ, zero, suc, ◌==◌, arith, Bool, true, false, refl, List, [], ◌∷◌}
+use Rattle.std.specs.Prelude.{if◌then◌else◌, slice_set, replicate}
 use Rattle.prov_types.specs.declared.kinds.Kind.{Kind}
 use Rattle.prov_types.specs.declared.kinds.Kind.TheVariants.{Any, Num}
 use Rattle.prov_types.specs.Spans.{one}

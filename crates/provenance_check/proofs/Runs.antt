@@ -1,6 +1,6 @@
 -- Tests at many numbers.
-use Rattle.std.proofs.Common.{◌≡◌, ℕ, zero, suc, ◌≤◌, ◌<◌, ◌+◌, ◌-◌, ◌*◌, ◌/◌, ◌%◌, arith, Bool, true, false, refl, sym, ◌∙◌, ap, List}
-use Rattle.std.specs.Prelude.{◌&&◌, nat_lt, nat_le, if◌then◌else◌, slice_index}
+use Rattle.std.proofs.Common.{◌≡◌, ℕ, zero, suc, ◌≤◌, ◌<◌, ◌+◌, ◌-◌, ◌*◌, ◌/◌, ◌%◌, arith, Bool, true, false, refl, ◌∙◌, ap}
+use Rattle.std.specs.Prelude.{◌&&◌, nat_le, slice_index}
 use Rattle.std.proofs.lemmas.Bool.Decides.{nat_tests}
 use Rattle.std.proofs.Math.Nat.{add-mul, div-mul-le_self, mod-eq-sub-div-mul}
 use Rattle.prov_types.specs.declared.kinds.Span.{Span}
@@ -69,14 +69,14 @@ mul_le a b k l = let x : b ≡ a + (b - a) = omega arith in let y : b * k ≡ a 
 pub whole_range : (g : Ground) (right : ℕ → Bool) (r : ℕ) (s : Span) (width : ℕ) → s.lo ≤ s.hi → is_allowed g right r (s.hi - s.lo + width) s.lo ≡ true → every (is_allowed g right r width) s.lo s.by (count s) ≡ true
 whole_range g right r s width order h =
     every_of (is_allowed g right r width) s.lo s.by (count s) (λ i k.
-        let m : i * s.by ≤ (s.hi - s.lo) / s.by * s.by = mul_le i ((s.hi - s.lo) / s.by) s.by (omega (arith, k)) in
-        let d : (s.hi - s.lo) / s.by * s.by ≤ s.hi - s.lo = div-mul-le_self (s.hi - s.lo) s.by in
-        let a = both _ _ h in
-        let l : s.lo + (s.hi - s.lo + width) ≤ length_of g.lens r = le_of (s.lo + (s.hi - s.lo + width)) (length_of g.lens r) a.0 in
-        let x : nat_le (s.lo + i * s.by + width) (length_of g.lens r) ≡ true = is_le (s.lo + i * s.by + width) (length_of g.lens r) (omega (arith, l, m, d, order)) in
-        rw x (every_of right (slice_index g.starts r + (s.lo + i * s.by)) 1 width (λ j q.
-            let e : slice_index g.starts r + (s.lo + i * s.by) + j * 1 ≡ slice_index g.starts r + s.lo + (i * s.by + j) * 1 = omega arith in
-            ap right e ∙ of_every right (slice_index g.starts r + s.lo) 1 (s.hi - s.lo + width) (i * s.by + j) a.1 (omega (arith, m, d, q)))))
+    let m : i * s.by ≤ (s.hi - s.lo) / s.by * s.by = mul_le i ((s.hi - s.lo) / s.by) s.by (omega (arith, k)) in
+    let d : (s.hi - s.lo) / s.by * s.by ≤ s.hi - s.lo = div-mul-le_self (s.hi - s.lo) s.by in
+    let a = both _ _ h in
+    let l : s.lo + (s.hi - s.lo + width) ≤ length_of g.lens r = le_of (s.lo + (s.hi - s.lo + width)) (length_of g.lens r) a.0 in
+    let x : nat_le (s.lo + i * s.by + width) (length_of g.lens r) ≡ true = is_le (s.lo + i * s.by + width) (length_of g.lens r) (omega (arith, l, m, d, order)) in
+    rw x (every_of right (slice_index g.starts r + (s.lo + i * s.by)) 1 width (λ j q.
+    let e : slice_index g.starts r + (s.lo + i * s.by) + j * 1 ≡ slice_index g.starts r + s.lo + (i * s.by + j) * 1 = omega arith in
+    ap right e ∙ of_every right (slice_index g.starts r + s.lo) 1 (s.hi - s.lo + width) (i * s.by + j) a.1 (omega (arith, m, d, q)))))
 
 -- the last of a span's numbers
 last_is : (s : Span) → IsProper s → s.lo + (s.hi - s.lo) / s.by * s.by ≡ s.hi
@@ -90,7 +90,7 @@ last_is s p =
 pub ends_outside : (g : Ground) (right : ℕ → Bool) (r : ℕ) (s : Span) (width : ℕ) → IsProper s → length_of g.lens r < s.hi + width → every (is_allowed g right r width) s.lo s.by (count s) ≡ false
 ends_outside g right r s width p h =
     not_every (is_allowed g right r width) s.lo s.by (count s) ((s.hi - s.lo) / s.by) (omega arith)
-        (let e : nat_le (s.lo + (s.hi - s.lo) / s.by * s.by + width) (length_of g.lens r) ≡ false = let l = last_is s p in let k : length_of g.lens r < s.lo + (s.hi - s.lo) / s.by * s.by + width = omega (arith, l, h) in grind (arith, nat_tests) in rw e refl)
+    (let e : nat_le (s.lo + (s.hi - s.lo) / s.by * s.by + width) (length_of g.lens r) ≡ false = let l = last_is s p in let k : length_of g.lens r < s.lo + (s.hi - s.lo) / s.by * s.by + width = omega (arith, l, h) in grind (arith, nat_tests) in rw e refl)
 
 every_both : (f g : ℕ → Bool) (lo by n : ℕ) → every (λ o. f o && g o) lo by n ≡ (every f lo by n && every g lo by n)
 unfolding every

@@ -1,11 +1,9 @@
 -- Which loads and stores are allowed.
-use Rattle.std.specs.Prelude.{ℕ, ◌+◌, ◌%◌, ◌==◌, ◌&&◌, nat_le, not, Bool, true, false, List, Option, Some, None, if◌then◌else◌, slice_index, is_some}
-use Rattle.rv_step.specs.declared.bus.Access.{Access}
+use Rattle.std.specs.Prelude.{ℕ, ◌+◌, ◌%◌, ◌==◌, ◌&&◌, nat_le, not, Bool, List, Option, Some, None, if◌then◌else◌, slice_index}
 use Rattle.rv_step.specs.declared.bus.Access.TheVariants as access
 use Rattle.rv_step.specs.Exec.{Rights}
 use Rattle.prov_types.specs.declared.kinds.Span.{Span}
 use Rattle.prov_types.specs.declared.kinds.Kind.{Kind}
-use Rattle.prov_types.specs.declared.kinds.Kind.TheVariants.{Any, Ptr}
 use Rattle.prov_types.specs.Kinds.{length_of}
 use Rattle.prov_cert.specs.declared.cert.StackPart.{StackPart}
 use Rattle.prov_layout.specs.Offsets.{at_each, every}

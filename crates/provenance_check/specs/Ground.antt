@@ -1,7 +1,5 @@
 -- What a certificate is judged over, as plain data.
-use Rattle.std.specs.Prelude.{ℕ, Bool, true, false, ◌≡◌, ◌+◌, ◌<◌, ◌^◌, List, Option, Some, slice_get, slice_index}
-use Rattle.prov_types.specs.declared.kinds.Span.{Span}
-use Rattle.prov_types.specs.declared.kinds.Kind.{Kind}
+use Rattle.std.specs.Prelude.{ℕ, Bool, ◌≡◌, ◌+◌, ◌<◌, ◌^◌, List, Option, Some, slice_get, slice_index}
 use Rattle.prov_types.specs.declared.kinds.Kind.TheVariants.{Ptr}
 use Rattle.prov_types.specs.Kinds.{IsProperKind, length_of}
 use Rattle.prov_cert.specs.declared.cert.RegKind.{RegKind}
@@ -10,7 +8,6 @@ use Rattle.prov_cert.specs.Cert.{Node}
 use Rattle.prov_layout.specs.declared.piece.Class.{Class}
 use Rattle.prov_layout.specs.declared.piece.Class.TheVariants.{Fixed}
 use Rattle.prov_layout.specs.declared.piece.Piece.{Piece}
-use Rattle.prov_layout.specs.Pieces.{AreOrdered}
 
 pub record Ground : Type 0 where
   -- where each region begins and how long it is, by its number

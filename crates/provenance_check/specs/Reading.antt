@@ -1,11 +1,10 @@
 -- The instruction at an offset of the image, and the HIGH20 sites on it.
-use Rattle.std.specs.Prelude.{ℕ, ◌+◌, ◌*◌, ◌%◌, ◌==◌, ◌&&◌, ◌||◌, nat_le, Bool, true, false, List, Option, Some, None, if◌then◌else◌, slice_index, length, is_none}
+use Rattle.std.specs.Prelude.{ℕ, ◌+◌, ◌*◌, ◌%◌, ◌==◌, ◌&&◌, nat_le, Bool, true, false, List, Option, Some, None, if◌then◌else◌, slice_index, length, is_none}
 use Rattle.rv_decode.specs.declared.insn.Insn.{Insn}
 use Rattle.rv_decode.specs.declared.insn.Op.{Op}
 use Rattle.rv_decode.specs.declared.insn.Op.TheVariants as ops
 use Rattle.rv_decode.specs.Means.{decoded}
 use Rattle.prov_types.specs.declared.kinds.Place.{Place}
-use Rattle.prov_types.specs.Kinds.{length_of}
 use Rattle.prov_layout.specs.declared.piece.Piece.{Piece}
 use Rattle.prov_layout.specs.Offsets.{every}
 use Rattle.prov_layout.specs.Pieces.{all_of, is_code, piece_at}

@@ -1,17 +1,16 @@
 -- The rules of a node: tests with their names, judged in order.
-use Rattle.std.specs.Prelude.{ℕ, ◌+◌, ◌==◌, ◌&&◌, ◌||◌, nat_le, nat_lt, not, Bool, true, false, List, [], ◌∷◌, Option, Some, None, if◌then◌else◌, slice_get, slice_index_or, is_some}
+use Rattle.std.specs.Prelude.{ℕ, ◌==◌, ◌&&◌, ◌||◌, nat_lt, not, Bool, true, false, List, [], ◌∷◌, Option, Some, None, if◌then◌else◌, slice_get, slice_index_or, is_some}
 use Rattle.std.specs.List.{list_any}
 use Rattle.rv_decode.specs.declared.insn.Insn.{Insn}
 use Rattle.rv_step.specs.declared.bus.Access.TheVariants as access
 use Rattle.rv_step.specs.Exec.{Rights}
-use Rattle.prov_types.specs.declared.kinds.Span.{Span}
 use Rattle.prov_types.specs.declared.kinds.Kind.{Kind}
-use Rattle.prov_types.specs.declared.kinds.Kind.TheVariants.{Any, Num, Ptr, Opt}
+use Rattle.prov_types.specs.declared.kinds.Kind.TheVariants.{Num, Ptr, Opt}
 use Rattle.prov_types.specs.declared.kinds.Place.{Place}
 use Rattle.prov_types.specs.Spans.{one}
 use Rattle.prov_types.specs.Kinds.{length_of}
 use Rattle.prov_types.specs.Fits.{fits}
-use Rattle.prov_types.specs.Asked.{KindAsk, Sets, Loads, Stores, Forks, Goes, Jumps, Stops, asked_kinds, may_compare}
+use Rattle.prov_types.specs.Asked.{KindAsk, Loads, Stores, Forks, Jumps, asked_kinds, may_compare}
 use Rattle.prov_cert.specs.declared.cert.StackPart.{StackPart}
 use Rattle.prov_cert.specs.Cert.{Node}
 use Rattle.prov_layout.specs.Offsets.{every}
@@ -21,7 +20,7 @@ use Rattle.provenance_check.specs.declared.rule.Rule.{Rule}
 use Rattle.provenance_check.specs.declared.rule.Rule.TheVariants as rules
 use Rattle.provenance_check.specs.Ground.{Ground}
 use Rattle.provenance_check.specs.Registers.{kind_at, kinds_of, written}
-use Rattle.provenance_check.specs.Reading.{insn_at, is_at_most, is_clear, is_lui, place_of, target_at}
+use Rattle.provenance_check.specs.Reading.{insn_at, is_at_most, is_clear, is_lui, place_of}
 use Rattle.provenance_check.specs.Accesses.{is_allowed, loaded, stores}
 use Rattle.provenance_check.specs.Successors.{Before, Successor, Target, Inner, Out, Converts, Astray, cell_in, even_offset, link_kind, successors, target_by}
 

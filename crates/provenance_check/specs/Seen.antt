@@ -17,8 +17,16 @@ use Rattle.provenance_check.specs.Successors.{Successor, Target, Inner, Out, Con
 
 abbrev pub seen : KeptGround → Ground
 seen g = record {
-  starts = g.starts.now; lens = g.lens.now; image = g.image.now; sites = g.sites.now; pieces = g.pieces.now; nodes = g.nodes.now;
-  called = g.called.now; notified = g.notified.now; last = g.last.now; cells = g.cells;
+  starts = g.starts.now;
+  lens = g.lens.now;
+  image = g.image.now;
+  sites = g.sites.now;
+  pieces = g.pieces.now;
+  nodes = g.nodes.now;
+  called = g.called.now;
+  notified = g.notified.now;
+  last = g.last.now;
+  cells = g.cells;
 }
 
 abbrev pub ask_of : Asked → KindAsk

@@ -1,25 +1,20 @@
 -- Where a run may go on behind a node, and what holds there.
-use Rattle.std.specs.Prelude.{ℕ, ◌+◌, ◌%◌, ◌==◌, ◌&&◌, ◌||◌, nat_lt, Bool, true, false, List, [], ◌∷◌, ◌++◌, Option, Some, None, if◌then◌else◌, slice_get, slice_index_or}
-use Rattle.std.specs.List.{list_any}
+use Rattle.std.specs.Prelude.{ℕ, ◌%◌, ◌==◌, ◌&&◌, Bool, true, false, List, [], ◌∷◌, Option, Some, None, if◌then◌else◌}
 use Rattle.rv_decode.specs.declared.insn.Insn.{Insn}
-use Rattle.rv_decode.specs.declared.insn.Op.{Op}
 use Rattle.rv_step.specs.Exec.{Rights}
 use Rattle.uh_base.specs.Bytes.{plus}
 use Rattle.prov_types.specs.declared.kinds.Span.{Span}
 use Rattle.prov_types.specs.declared.kinds.Kind.{Kind}
-use Rattle.prov_types.specs.declared.kinds.Kind.TheVariants.{Any, Num, Ptr, Opt}
+use Rattle.prov_types.specs.declared.kinds.Kind.TheVariants.{Any, Num, Ptr}
 use Rattle.prov_types.specs.declared.kinds.Place.{Place}
 use Rattle.prov_types.specs.Spans.{one}
-use Rattle.prov_types.specs.Fits.{fits}
 use Rattle.prov_types.specs.Transfer.{image_kind}
 use Rattle.prov_types.specs.Narrow.{narrow}
 use Rattle.prov_types.specs.Asked.{KindAsk, Sets, Loads, Stores, Forks, Goes, Jumps, Stops}
 use Rattle.prov_cert.specs.declared.cert.StackPart.{StackPart}
-use Rattle.prov_cert.specs.Cert.{Node}
 use Rattle.prov_layout.specs.declared.piece.Class.{Class}
-use Rattle.prov_layout.specs.declared.piece.Class.TheVariants.{Code, Plain, Number, Fixed, Convert}
+use Rattle.prov_layout.specs.declared.piece.Class.TheVariants.{Convert}
 use Rattle.prov_layout.specs.declared.piece.Piece.{Piece}
-use Rattle.prov_layout.specs.Offsets.{every}
 use Rattle.prov_layout.specs.Pieces.{piece_at}
 use Rattle.prov_layout.specs.Loads.{read_kind}
 use Rattle.prov_layout.specs.Stack.{with_part}

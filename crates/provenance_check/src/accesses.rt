@@ -76,7 +76,13 @@ fn each_allowed<R: PageRights>(
 
 /// Whether an access to the stack at the one offset of a span is allowed.
 #[tactic(auto, unfolding(crate::specs::Accesses::stack_allows))]
-fn stack_allows<R: PageRights>(ground: &Ground<'_>, rights: &R, write: bool, s: &Span, width: u64) -> bool
+fn stack_allows<R: PageRights>(
+    ground: &Ground<'_>,
+    rights: &R,
+    write: bool,
+    s: &Span,
+    width: u64,
+) -> bool
     requires some { 0 < width }
     requires region { slice_index ground.now.starts.now 1 + length_of ground.now.lens.now 1 < 2 ^ 64 }
     ensures { result ≡ stack_allows (seen ground.now) (R.allows rights.now (if write then access.Store else access.Load)) s.now width }
@@ -151,7 +157,8 @@ fn each_stores<R: PageRights>(
     requires order { AreOrdered ground.now.pieces.now }
     ensures { result ≡ at_each (stores_at (seen ground.now) (R.allows rights.now) region width kind.now) s.now }
 {
-    each_allowed(ground, rights, true, region, s, width) && each_keeps(ground.pieces, region, s, width, kind)
+    each_allowed(ground, rights, true, region, s, width)
+        && each_keeps(ground.pieces, region, s, width, kind)
 }
 
 /// Whether stores at each offset of a span are allowed, and keep what is there. A notified function stores to the stack

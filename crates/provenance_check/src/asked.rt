@@ -190,7 +190,11 @@ pub(crate) fn asked_of(lens: &[u64], insn: &Insn, place: &Place, a: &Kind, b: &K
         },
         Op::Fence => Asked::Sets {
             rd: 0,
-            kind: Kind::Num(Span { lo: 0, hi: 0, by: 1 }),
+            kind: Kind::Num(Span {
+                lo: 0,
+                hi: 0,
+                by: 1,
+            }),
         },
         Op::Ecall | Op::Ebreak => Asked::Stops,
         _ => Asked::Sets {

@@ -13,5 +13,6 @@ mod reading;
 mod registers;
 mod rule;
 
+pub use check::check_node;
 pub use ground::{Ground, PageRights};
 pub use rule::Rule;

@@ -59,7 +59,12 @@ fn unconverted_rule(ground: &Ground<'_>, number: u32, node: &Node) -> bool
 
 /// The first rule from `Edge` on that fails, where `edge` says whether that one passes.
 #[tactic(auto, unfolding(crate::specs::Rules::first_of))]
-pub(crate) fn first_behind(ground: &Ground<'_>, number: u32, node: &Node, edge: bool) -> Option<Rule>
+pub(crate) fn first_behind(
+    ground: &Ground<'_>,
+    number: u32,
+    node: &Node,
+    edge: bool,
+) -> Option<Rule>
     ensures { result ≡ first_of (tests_behind (seen ground.now) number node.now edge) }
 {
     if !edge {

@@ -1,8 +1,9 @@
 //! The instruction at an offset of the image, and the HIGH20 sites on it.
 #![tactic(auto)]
 
-ghost use Rattle.std.specs.Prelude.{◌≡◌, ◌+◌, ◌<◌, ◌^◌, ◌==◌, ◌%◌, IfSome, Some, length};
-ghost use Rattle.rv_decode.specs.Means.{NamesRegisters};
+ghost use Rattle.std.specs.Prelude.{◌≡◌, ◌+◌, ◌<◌, ◌≤◌, ◌^◌, IfSome, IsTrue, length};
+ghost use Rattle.rv_decode.specs.Means.{NamesRegisters, decoded};
+ghost use Rattle.rv_decode.specs.RowLaws.{HasLength};
 ghost use Rattle.prov_types.specs.Kinds.{length_of};
 ghost use Rattle.prov_layout.specs.Pieces.{AreOrdered};
 ghost use Rattle.provenance_check.specs.Ground.{target_in};
@@ -13,7 +14,7 @@ ghost use Rattle.provenance_check.specs.Seen.{seen};
 use crate::ground::{Ground, of_region};
 use prov_layout::{Class, Piece, all_code, piece_at};
 use prov_types::{Kind, Place};
-use rv_decode::{Insn, Op, decode};
+use rv_decode::{Insn, Op, decode, length_is_of_the_low_bits};
 
 fn half_at(image: &[u8], o: usize) -> u16
     requires { o + 1 < length image.now }
@@ -25,7 +26,8 @@ fn half_at(image: &[u8], o: usize) -> u16
 /// Whether so many bytes of the image from an offset on are code.
 fn is_code_at(ground: &Ground<'_>, o: u64, len: u64) -> bool
     requires order { AreOrdered ground.now.pieces.now }
-    ensures { result ≡ is_code_at (seen ground.now) o len }
+    ensures is { result ≡ is_code_at (seen ground.now) o len }
+    ensures inside { IsTrue result → o + len ≤ length ground.now.image.now }
 {
     let size = ground.image.len() as u64;
     if len > size || o > size - len {
@@ -44,12 +46,21 @@ fn stops(op: Op) -> bool
     }
 }
 
-fn unless_it_stops(found: Option<(Insn, u8)>) -> Option<(Insn, u8)>
-    ensures is { result ≡ unless_it_stops found }
-    ensures some { IfSome result (λ r. found ≡ Some r) }
+/// The instruction of two halves and its length, None where they are no instruction, and where it is a trap by itself.
+fn read(half0: u16, half1: u16) -> Option<(Insn, u8)>
+    ensures is { result ≡ unless_it_stops (decoded half0 half1) }
+    ensures registers { IfSome result (λ found. NamesRegisters found.0) }
+    ensures long { IfSome result (λ found. HasLength half0 found.1) }
 {
-    match found {
-        Some((insn, len)) => { if stops(insn.op) { None } else { Some((insn, len)) } }
+    length_is_of_the_low_bits();
+    match decode(half0, half1) {
+        Some((insn, len)) => {
+            if stops(insn.op) {
+                None
+            } else {
+                Some((insn, len))
+            }
+        }
         None => None,
     }
 }
@@ -61,6 +72,7 @@ pub(crate) fn insn_at(ground: &Ground<'_>, o: u64) -> Option<(Insn, u8)>
     requires order { AreOrdered ground.now.pieces.now }
     ensures is { result ≡ insn_at (seen ground.now) o }
     ensures registers { IfSome result (λ found. NamesRegisters found.0) }
+    ensures inside { IfSome result (λ found. o + found.1 ≤ length ground.now.image.now) }
 {
     if !is_code_at(ground, o, 2) {
         return None;
@@ -70,9 +82,9 @@ pub(crate) fn insn_at(ground: &Ground<'_>, o: u64) -> Option<(Insn, u8)>
         if !is_code_at(ground, o, 4) {
             return None;
         }
-        unless_it_stops(decode(half0, half_at(ground.image, o as usize + 2)))
+        read(half0, half_at(ground.image, o as usize + 2))
     } else {
-        unless_it_stops(decode(half0, 0))
+        read(half0, 0)
     }
 }
 
@@ -105,7 +117,13 @@ fn target_at(sites: &[Piece], o: u64) -> Option<u64>
     ensures { result ≡ target_at sites.now o }
 {
     match piece_at(sites, 0, o) {
-        Some(p) => { if p.at == o && p.len == 4 { target_in(p.class) } else { None } }
+        Some(p) => {
+            if p.at == o && p.len == 4 {
+                target_in(p.class)
+            } else {
+                None
+            }
+        }
         None => None,
     }
 }

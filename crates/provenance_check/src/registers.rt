@@ -9,7 +9,6 @@ ghost use Rattle.provenance_check.specs.Registers.{kind_at, kinds_of, naming, wr
 use prov_cert::RegKind;
 use prov_types::{Kind, Span};
 
-
 /// The kinds with a register written; register 0 isn't.
 pub(crate) fn write(kinds: &mut [Kind; 32], register: u8, kind: Kind)
     requires { register < 32 }
@@ -26,7 +25,11 @@ fn named_kinds(regs: &[RegKind]) -> [Kind; 32]
     ensures { result ≡ kinds_of regs.now }
 {
     let mut kinds = [Kind::Any; 32];
-    kinds[0] = Kind::Num(Span { lo: 0, hi: 0, by: 1 });
+    kinds[0] = Kind::Num(Span {
+        lo: 0,
+        hi: 0,
+        by: 1,
+    });
     for k in regs {
         write(&mut kinds, k.reg, k.kind);
     }

@@ -1,9 +1,9 @@
-use Rattle.std.proofs.Common.{◌≡◌, ◌<◌, ◌≤◌, ◌+◌, ◌-◌, ◌/◌, ◌*◌, ℕ, arith, sym, ap, ◌∙◌, refl, Bool, true, false}
-use Rattle.std.specs.Prelude.{if◌then◌else◌, nat_le, ◌&&◌}
+use Rattle.std.proofs.Common.{◌≡◌, ◌<◌, ◌+◌, arith, sym, ◌∙◌, refl, true, false}
+use Rattle.std.specs.Prelude.{if◌then◌else◌, nat_le}
 use Rattle.std.proofs.lemmas.Bool.Decides.{nat_tests}
 use Rattle.rv_step.specs.declared.bus.Access.TheVariants as access
 use Rattle.prov_types.specs.Kinds.{length_of}
-use Rattle.prov_layout.specs.Offsets.{at_each, count, every}
+use Rattle.prov_layout.specs.Offsets.{at_each, count}
 use Rattle.provenance_check.specs.Accesses.{is_allowed}
 use Rattle.provenance_check.specs.Seen.{seen}
 use Rattle.provenance_check.proofs.Runs.{and_false, ends_outside, every_of, not_every, whole_range}

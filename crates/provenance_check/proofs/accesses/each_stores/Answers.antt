@@ -1,7 +1,5 @@
-use Rattle.std.proofs.Common.{◌≡◌, ◌<◌, ◌+◌, ℕ, sym, ◌∙◌, refl, true, false}
-use Rattle.std.specs.Prelude.{◌&&◌}
+use Rattle.std.proofs.Common.{sym, ◌∙◌, refl}
 use Rattle.rv_step.specs.declared.bus.Access.TheVariants as access
-use Rattle.prov_layout.specs.Offsets.{at_each, count, every}
 use Rattle.prov_layout.specs.Pieces.{piece_at}
 use Rattle.prov_layout.specs.Stores.{store_keeps}
 use Rattle.provenance_check.specs.Accesses.{is_allowed, stores_at}

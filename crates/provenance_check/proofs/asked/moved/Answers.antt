@@ -1,6 +1,3 @@
-use Rattle.std.proofs.Common.{sym}
-use Rattle.prov_types.specs.Kinds.{IsProperKind}
-use Rattle.prov_types.specs.Transfer.{transfer}
 use Rattle.provenance_check.proofs.asked.moved.Goals as goal
 
 pub returns-clause-proper : goal.returns-clause-proper

@@ -1,4 +1,4 @@
-use Rattle.std.proofs.Common.{◌≡◌, ◌<◌, ℕ, drop, true}
+use Rattle.std.proofs.Common.{◌≡◌, drop}
 use Rattle.provenance_check.specs.Rules.{are_among}
 use Rattle.provenance_check.specs.Successors.{and_cell}
 use Rattle.provenance_check.proofs.edges.are_among.Given as goal

@@ -1,4 +1,4 @@
-use Rattle.std.proofs.Common.{◌≡◌, ◌<◌, ℕ, drop, true}
+use Rattle.std.proofs.Common.{◌≡◌, drop}
 use Rattle.provenance_check.specs.Rules.{has_part}
 use Rattle.provenance_check.proofs.edges.has_part.Given as goal
 

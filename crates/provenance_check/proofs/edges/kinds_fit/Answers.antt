@@ -1,4 +1,4 @@
-use Rattle.std.proofs.Common.{◌≡◌, ℕ, ◌<◌, ◌≤◌, arith, sym, ◌∙◌, false, true}
+use Rattle.std.proofs.Common.{arith, sym, ◌∙◌}
 use Rattle.prov_types.specs.Fits.{fits}
 use Rattle.provenance_check.specs.Rules.{kinds_fit}
 use Rattle.provenance_check.specs.Registers.{kind_at}

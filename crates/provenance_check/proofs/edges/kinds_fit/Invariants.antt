@@ -1,4 +1,4 @@
-use Rattle.std.proofs.Common.{◌≡◌, ◌<◌, ℕ, drop, true}
+use Rattle.std.proofs.Common.{◌≡◌, ◌<◌, ℕ, true}
 use Rattle.prov_types.specs.Fits.{fits}
 use Rattle.provenance_check.specs.Registers.{kind_at}
 use Rattle.provenance_check.proofs.edges.kinds_fit.Given as goal

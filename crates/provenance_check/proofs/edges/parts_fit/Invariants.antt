@@ -1,4 +1,4 @@
-use Rattle.std.proofs.Common.{◌≡◌, ◌<◌, ℕ, drop, true}
+use Rattle.std.proofs.Common.{◌≡◌, drop}
 use Rattle.provenance_check.specs.Rules.{parts_fit}
 use Rattle.provenance_check.specs.Seen.{parts_with}
 use Rattle.provenance_check.proofs.edges.parts_fit.Given as goal

@@ -1,4 +1,4 @@
-use Rattle.std.proofs.Common.{◌≡◌, ◌<◌, ℕ, drop, true}
+use Rattle.std.proofs.Common.{◌≡◌, drop}
 use Rattle.provenance_check.specs.Rules.{all_above}
 use Rattle.provenance_check.proofs.order.all_above.Given as goal
 

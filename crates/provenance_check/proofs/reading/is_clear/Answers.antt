@@ -1,4 +1,4 @@
-use Rattle.std.proofs.Common.{◌≡◌, ℕ, ◌<◌, ◌≤◌, ◌+◌, arith, sym, ◌∙◌, false, true}
+use Rattle.std.proofs.Common.{arith, sym}
 use Rattle.std.specs.Prelude.{is_none}
 use Rattle.prov_layout.specs.Pieces.{piece_at}
 use Rattle.provenance_check.proofs.Runs.{all_from, one_from}

@@ -1,4 +1,4 @@
-use Rattle.std.proofs.Common.{◌≡◌, ◌<◌, ℕ, drop, true}
+use Rattle.std.proofs.Common.{◌≡◌, ◌<◌, ℕ, true}
 use Rattle.std.specs.Prelude.{◌+◌, is_none}
 use Rattle.prov_layout.specs.Pieces.{piece_at}
 use Rattle.provenance_check.proofs.reading.is_clear.Given as goal

@@ -1,4 +1,4 @@
-use Rattle.std.proofs.Common.{◌≡◌, ◌<◌, ℕ, drop, true}
+use Rattle.std.proofs.Common.{◌≡◌, drop}
 use Rattle.std.specs.Prelude.{◌∷◌, replicate}
 use Rattle.prov_types.specs.declared.kinds.Kind.TheVariants.{Any, Num}
 use Rattle.prov_types.specs.Spans.{one}
