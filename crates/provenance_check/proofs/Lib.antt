@@ -1,3 +1,4 @@
 pub mod Runs
 pub mod NextLemmas
 pub mod ProperKinds
+pub mod Bridge

@@ -5,3 +5,4 @@ pub mod Accesses
 pub mod Successors
 pub mod Rules
 pub mod Seen
+pub mod Judged

@@ -8,6 +8,7 @@ mod check;
 mod edges;
 mod ground;
 mod jumps;
+mod laws;
 mod order;
 mod reading;
 mod registers;
@@ -15,4 +16,5 @@ mod rule;
 
 pub use check::check_node;
 pub use ground::{Ground, PageRights};
+pub use laws::none_fails_judges;
 pub use rule::Rule;
