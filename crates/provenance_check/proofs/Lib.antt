@@ -2,3 +2,4 @@ pub mod Runs
 pub mod NextLemmas
 pub mod ProperKinds
 pub mod Bridge
+pub mod InPlace

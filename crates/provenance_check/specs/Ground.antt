@@ -1,6 +1,7 @@
 -- What a certificate is judged over, as plain data.
-use Rattle.std.specs.Prelude.{ℕ, Bool, ◌≡◌, ◌+◌, ◌<◌, ◌^◌, List, Option, Some, slice_get, slice_index}
+use Rattle.std.specs.Prelude.{ℕ, suc, Bool, ◌≡◌, ◌+◌, ◌<◌, ◌^◌, List, Option, Some, slice_get, slice_index}
 use Rattle.prov_types.specs.declared.kinds.Kind.TheVariants.{Ptr}
+use Rattle.prov_layout.specs.Pieces.{IsBefore, IsProperClass}
 use Rattle.prov_types.specs.Kinds.{IsProperKind, length_of}
 use Rattle.prov_cert.specs.declared.cert.RegKind.{RegKind}
 use Rattle.prov_cert.specs.declared.cert.StackPart.{StackPart}
@@ -50,3 +51,11 @@ AreFormed nodes = (i : ℕ) (n : Node) → slice_get nodes i ≡ Some n → IsFo
 -- each region ends below 2^64
 abbrev pub End : List ℕ → List ℕ → Type 0
 End starts lens = (r : ℕ) → slice_index starts r + length_of lens r < 2 ^ 64
+
+-- the piece at an index has a proper kind
+abbrev pub ProperAt : List Piece → ℕ → Type 0
+ProperAt pieces i = (p : Piece) → slice_get pieces i ≡ Some p → IsProperClass p.class
+
+-- the piece before it ends where it begins, or before
+abbrev pub BehindAt : List Piece → ℕ → Type 0
+BehindAt pieces i = (k : ℕ) (p q : Piece) → suc k ≡ i → slice_get pieces k ≡ Some p → slice_get pieces i ≡ Some q → IsBefore p q

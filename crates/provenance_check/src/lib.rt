@@ -5,6 +5,7 @@ mod accesses;
 mod asked;
 mod branches;
 mod check;
+mod conditions;
 mod edges;
 mod ground;
 mod jumps;
@@ -15,6 +16,7 @@ mod registers;
 mod rule;
 
 pub use check::check_node;
+pub use conditions::{are_formed, are_ordered, regions_end};
 pub use ground::{Ground, PageRights};
 pub use laws::none_fails_judges;
 pub use rule::Rule;
