@@ -123,7 +123,8 @@ stores_outside g allows b r s width kind f h =
     let a = both (not b.notified) (at_each (stores_at g allows r width kind) s) h in
     let each : (o : ℕ) → InSpan s o → (is_allowed g (allows access.Store) r width o && store_keeps (piece_at g.pieces r) o width kind) ≡ true = of_each (stores_at g allows r width kind) s a.1 in
     record {
-      region = f; call = not_true b.notified a.0;
+      region = f;
+      call = not_true b.notified a.0;
       allowed = λ o i. of_allowed g (allows access.Store) r width o (both _ _ (each o i)).0;
       keeps = λ o i. (both _ _ (each o i)).1;
     }
@@ -222,9 +223,17 @@ contains_later m ns n h = (suc h.0, let l = h.1 in omega (arith, l), h.2)
 
 leads_later : (nodes : List Node) (m : ℕ) (ns : List ℕ) (s : Successor) → Leads nodes ns s → Leads nodes (m ∷ ns) s
 leads_later nodes m ns s e = record {
-    number = e.number; node = e.node; named = contains_later m ns e.number e.named; listed = e.listed; at = e.at;
-    kinds = e.kinds; proper = e.proper; parts = e.parts; proper_parts = e.proper_parts; cells = e.cells;
-  }
+  number = e.number;
+  node = e.node;
+  named = contains_later m ns e.number e.named;
+  listed = e.listed;
+  at = e.at;
+  kinds = e.kinds;
+  proper = e.proper;
+  parts = e.parts;
+  proper_parts = e.proper_parts;
+  cells = e.cells;
+}
 
 leads_here : (nodes : List Node) (m : ℕ) (ns : List ℕ) (s : Successor) → AreFormed nodes → serves s (slice_get nodes m) ≡ true → Leads nodes (m ∷ ns) s
 leads_here nodes m ns s formed = by (slice_get nodes m) refl
@@ -237,9 +246,16 @@ leads_here nodes m ns s formed = by (slice_get nodes m) refl
         let d = both (parts_fit s.parts n.stack) (same_cells s.done n.done) b.1 in
         let form = formed m n f in
         record {
-          number = m; node = n; named = (0, omega arith, refl); listed = f; at = eq_of _ _ a.0;
-          kinds = of_kinds_fit s.kinds n.regs b.0; proper = kinds_proper n.regs form.registers;
-          parts = of_parts_fit s.parts n.stack d.0; proper_parts = form.parts; cells = of_same s.done n.done d.1;
+          number = m;
+          node = n;
+          named = (0, omega arith, refl);
+          listed = f;
+          at = eq_of _ _ a.0;
+          kinds = of_kinds_fit s.kinds n.regs b.0;
+          proper = kinds_proper n.regs form.registers;
+          parts = of_parts_fit s.parts n.stack d.0;
+          proper_parts = form.parts;
+          cells = of_same s.done n.done d.1;
         }
 
 -- each place where a run may go on has its node
@@ -271,8 +287,16 @@ convert_cell g allows b kinds r s (Some (kind, cell)) f e q h =
     let a = both (is_value (disposition kind) (kind_at kinds 10)) (is_allowed g (allows access.Store) r 8 s.lo && not (list_any (λ c. c == cell) b.done)) h in
     let d = both (is_allowed g (allows access.Store) r 8 s.lo) (not (list_any (λ c. c == cell) b.done)) a.1 in
     record {
-      region = r; span = s; cell_kind = kind; cell = cell; address = f; one = e; is = q; debug = a.0;
-      writable = of_allowed g (allows access.Store) r 8 s.lo d.0; fresh = not_true (list_any (λ c. c == cell) b.done) d.1;
+      region = r;
+      span = s;
+      cell_kind = kind;
+      cell = cell;
+      address = f;
+      one = e;
+      is = q;
+      debug = a.0;
+      writable = of_allowed g (allows access.Store) r 8 s.lo d.0;
+      fresh = not_true (list_any (λ c. c == cell) b.done) d.1;
     }
 
 convert_by : (g : Ground) (allows : Rights) (b : Before) (kinds : List Kind) (k : Kind) → kind_at kinds 11 ≡ k → converts g allows b.done (kind_at kinds 10) k ≡ true → ConvertPasses g allows b kinds
@@ -366,17 +390,17 @@ passes_so : (g : Ground) (allows : Rights) (number : ℕ) (node : Node) (place :
     → Passes g allows (before g number node) node.next place insn ask
 passes_so g allows number node place insn (Sets rd kind) formed t = leads_each g.nodes node.next (successors g allows (before g number node) place insn (Sets rd kind)) formed t.edge 0 _ refl
 passes_so g allows number node place insn (Loads rd (Ptr r s) width sign) formed t = record {
-    kind = or_any (loaded g allows (is_marked g.notified number) node.done node.stack r s width);
-    gives = load_gives g allows (before g number node) r s width t.load;
-    leads = leads_each g.nodes node.next (successors g allows (before g number node) place insn (Loads rd (Ptr r s) width sign)) formed t.edge 0 _ refl;
-  }
+  kind = or_any (loaded g allows (is_marked g.notified number) node.done node.stack r s width);
+  gives = load_gives g allows (before g number node) r s width t.load;
+  leads = leads_each g.nodes node.next (successors g allows (before g number node) place insn (Loads rd (Ptr r s) width sign)) formed t.edge 0 _ refl;
+}
 passes_so g allows number node place insn (Loads rd Any width sign) formed t = let f : false ≡ true = t.load in absurd cc
 passes_so g allows number node place insn (Loads rd (Num s) width sign) formed t = let f : false ≡ true = t.load in absurd cc
 passes_so g allows number node place insn (Loads rd (Opt r s) width sign) formed t = let f : false ≡ true = t.load in absurd cc
 passes_so g allows number node place insn (Stores (Ptr r s) width kind) formed t = record {
-    stores = store_so g allows (before g number node) r s width kind t.store;
-    leads = leads_each g.nodes node.next (successors g allows (before g number node) place insn (Stores (Ptr r s) width kind)) formed t.edge 0 _ refl;
-  }
+  stores = store_so g allows (before g number node) r s width kind t.store;
+  leads = leads_each g.nodes node.next (successors g allows (before g number node) place insn (Stores (Ptr r s) width kind)) formed t.edge 0 _ refl;
+}
 passes_so g allows number node place insn (Stores Any width kind) formed t = let f : false ≡ true = t.store in absurd cc
 passes_so g allows number node place insn (Stores (Num s) width kind) formed t = let f : false ≡ true = t.store in absurd cc
 passes_so g allows number node place insn (Stores (Opt r s) width kind) formed t = let f : false ≡ true = t.store in absurd cc
@@ -398,7 +422,10 @@ judged_by g allows number node (Some (insn, len)) formed f e =
     let b = passes_first rules.Site (site_rule g place insn) _ a.1 in
     let t = all_pass g allows number node place insn ask b.1 in
     record {
-      insn = insn; len = len; reads = f; site = b.0;
+      insn = insn;
+      len = len;
+      reads = f;
+      site = b.0;
       passes = passes_so g allows number node place insn ask formed t;
       order = order_so g number node t.order;
       converted = converted_so g number node t.converted;

@@ -38,8 +38,8 @@ rises pieces h (suc n) i p q e f =
 
 pub ordered : (pieces : List Piece) → ((k : ℕ) → k < length pieces → ProperAt pieces k × BehindAt pieces k) → AreOrdered pieces
 ordered pieces h = record {
-    rise = λ i j p q e f l.
+  rise = λ i j p q e f l.
       let z : j ≡ suc (i + (j - suc i)) = omega (arith, l) in
       rises pieces h (j - suc i) i p q e (sym (ap (slice_get pieces) z) ∙ f);
-    proper = λ i p e. (h i (slice_get_within pieces i p e)).0 p e;
-  }
+  proper = λ i p e. (h i (slice_get_within pieces i p e)).0 p e;
+}
