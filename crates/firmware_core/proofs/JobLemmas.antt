@@ -68,12 +68,12 @@ due_events_tick : (e : EventList) (t : ℕ) → has_moment e t ≡ true → afte
 unfolding after_tick
 due_events_tick e t h = rw h refl
 
-abbrev one_if : Bool → ℕ
+abbrev pub one_if : Bool → ℕ
 one_if true = 1
 one_if false = 0
 
 -- a tick where one is due, and a start for each notification that then stands in the queue
-abbrev need : State → ℕ
+abbrev pub need : State → ℕ
 need s = one_if (tick_is_due s.firmware) + length (after_tick s.firmware.events s.firmware.time).queue
 
 at_most_one : (b : Bool) → one_if b ≤ 1
@@ -133,7 +133,7 @@ module _ (once : TicksOnce) where
       let e : true ≡ false = sym (counted_counts s) ∙ ap counts (sym (next_is_counted s quiet none)) ∙ k in
       let bad : ⊥ = cc in absurd bad
 
-  need_falls : (s : State) → counts (next_turn s) ≡ false → (turn_of s).happened ≡ Turned → need (turn_of s).state < need s
+  pub need_falls : (s : State) → counts (next_turn s) ≡ false → (turn_of s).happened ≡ Turned → need (turn_of s).state < need s
   need_falls s k h = falls_by s (comes s) k h
 
   idle_queue : (s : State) → tick_is_due s.firmware ≡ false → (queue : List Entry) → s.firmware.events.queue ≡ queue → length queue ≡ 0 → notice_of s.firmware ≡ None

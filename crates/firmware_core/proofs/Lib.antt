@@ -5,4 +5,5 @@ pub mod JobLemmas
 pub mod SilentLemmas
 pub mod NearerLemmas
 pub mod PartLemmas
+pub mod RunLemmas
 pub mod CallLemmas

@@ -38,7 +38,7 @@ module _ (s : State) (within : s.steps ≤ s.bound) (more : goes_on (turn_of s).
   pub steps_of : Steps s
   steps_of = steps_by (counts (next_turn s)) refl
 
-within_by : (s : State) → s.steps ≤ s.bound → Steps s → (turn_of s).state.steps ≤ (turn_of s).state.bound
+pub within_by : (s : State) → s.steps ≤ s.bound → Steps s → (turn_of s).state.steps ≤ (turn_of s).state.bound
 within_by s within (Free steps bound silent) = omega (arith, steps, bound, within)
 within_by s within (One steps bound below) = omega (arith, steps, bound, below)
 

@@ -9,5 +9,6 @@ pub mod Slots
 pub mod Turns
 pub mod Calls
 pub mod Jobs
+pub mod Runs
 pub mod Loads
 pub mod Views

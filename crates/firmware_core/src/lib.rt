@@ -27,7 +27,7 @@ mod turn;
 
 pub use happened::{Halt, Happened, JobEnd};
 pub use job::{Job, begin, run_machine};
-pub use laws::jobs_are_turns;
+pub use laws::{free_turns_are_few, jobs_are_turns, jobs_end};
 pub use loading::{load, unload};
 pub use machine::{Machine, Setup};
 pub use turn::step_machine;

@@ -2,6 +2,7 @@
 ghost use Rattle.std.specs.Prelude.{◌≡◌, ◌≤◌, IfOk};
 ghost use Rattle.std.specs.Option.{is_some};
 ghost use Rattle.page_alloc.specs.Layout.{IsRam};
+ghost use Rattle.event_queue.specs.Queue.{Whole};
 ghost use Rattle.image_services.specs.Images.{find_image};
 ghost use Rattle.firmware_core.specs.Opening.{opened};
 
@@ -79,6 +80,13 @@ impl Machine {
         ensures { self.now.steps ≤ self.now.bound }
     {
         let _ = &self.steps;
+    }
+
+    /// The events of every machine are whole.
+    pub fn events_are_whole(&self)
+        ensures { Whole self.now.firmware.events }
+    {
+        self.firmware.events.whole();
     }
 
     /// Whether an image is loaded, by its handle.
