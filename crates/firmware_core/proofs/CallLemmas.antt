@@ -1,5 +1,5 @@
 -- The slot that comes next.
-use Rattle.std.proofs.Common.{◌≡◌, ℕ, Bool, true, false, Option, Some, None, refl, ap}
+use Rattle.std.proofs.Common.{◌≡◌, true, false, Option, Some, None, refl, ap}
 use Rattle.std.specs.Option.{is_some}
 use Rattle.event_queue.specs.declared.event.Notify.{Notify}
 use Rattle.firmware_core.specs.Frames.{tick_is_due, notice_of}

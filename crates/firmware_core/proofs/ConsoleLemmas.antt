@@ -1,5 +1,5 @@
 -- The handle of the console.
-use Rattle.std.proofs.Common.{◌≡◌, ℕ, ◌+◌, [], None, Result, Ok, Err, refl, sym, ap, ◌∙◌}
+use Rattle.std.proofs.Common.{◌≡◌, ◌+◌, [], None, Result, Ok, Err, sym, ap, ◌∙◌}
 use Rattle.page_alloc.specs.declared.layout.Layout.{Layout}
 use Rattle.handle_db.specs.Calls.{installation as handle_installation}
 use Rattle.protocol_db.specs.declared.refusal.ProtocolRefusal.{ProtocolRefusal}

@@ -1,9 +1,8 @@
 -- A job is its next turn, and the rest of it.
-use Rattle.std.proofs.Common.{◌≡◌, ◌≢◌, ◌⊎◌, inl, inr, ℕ, zero, suc, ◌+◌, ◌≤◌, ◌<◌, ◌-◌, ◌&&◌, Bool, true, false, not, List, [], ◌∷◌, length, Option, Some, None, refl, sym, ap, subst, ◌∙◌, arith}
+use Rattle.std.proofs.Common.{◌≡◌, ◌⊎◌, inl, inr, ℕ, zero, suc, ◌+◌, ◌≤◌, ◌<◌, Bool, true, false, not, List, [], ◌∷◌, length, Option, Some, None, refl, sym, ap, ◌∙◌, arith}
 use Rattle.std.specs.Prelude.{◌==◌, nat_lt, if◌then◌else◌}
 use Rattle.std.specs.List.{find, filter}
 use Rattle.std.proofs.lemmas.Bool.Decides.{nat_tests}
-use Rattle.record_text.specs.declared.cause.Cause.TheVariants as causes
 use Rattle.event_queue.specs.declared.event.Entry.{Entry}
 use Rattle.event_queue.specs.declared.event.Notify.{Notify}
 use Rattle.event_queue.specs.Queue.{EventList, is_entry, greatest, next_entry, notified, after_next}
@@ -12,10 +11,9 @@ use Rattle.event_queue.specs.Laws.{TicksOnce}
 use Rattle.firmware_core.specs.declared.happened.Happened.{Happened}
 use Rattle.firmware_core.specs.declared.happened.Happened.TheVariants.{Turned, Said, Left, Reset, Halted}
 use Rattle.firmware_core.specs.declared.happened.Halt.{Halt}
-use Rattle.firmware_core.specs.Parts.{Parts}
-use Rattle.firmware_core.specs.Frames.{tick_is_due, with_tick, notice_of, without_notice, with_notification, is_full}
-use Rattle.firmware_core.specs.Turns.{State, Turn, Tick, Notice, with_firmware, tick_turn, notice_turn, next_turn, turn_of, halted}
-use Rattle.firmware_core.specs.Jobs.{Job, counts, or_next, uncounted, most_uncounted, settled, joined, said_before, at_bound, turns_of, steps_left, job_of, goes_on, JobsAreTurns}
+use Rattle.firmware_core.specs.Frames.{tick_is_due, notice_of, with_notification, is_full}
+use Rattle.firmware_core.specs.Turns.{State, Turn, Tick, Notice, tick_turn, next_turn, turn_of}
+use Rattle.firmware_core.specs.Jobs.{Job, counts, or_next, uncounted, most_uncounted, settled, joined, said_before, turns_of, steps_left, job_of, goes_on, JobsAreTurns}
 use Rattle.firmware_core.proofs.TurnLemmas.{Comes, Ticks, Notices, Neither, comes, counted_counts, next_is_tick, next_is_notice, next_is_counted, turn_is, full_turn, turn_counts, turn_keeps, turn_happens, last_turn}
 
 -- ---- what starts leaves the queue

@@ -1,5 +1,5 @@
 -- Where the places of a layout lie.
-use Rattle.std.proofs.Common.{◌≡◌, ℕ, sym, ap, ◌∙◌, arith, ◌+◌, ◌-◌, ◌*◌, ◌≤◌}
+use Rattle.std.proofs.Common.{◌≡◌, ℕ, sym, ap, ◌∙◌, arith, ◌+◌, ◌-◌, ◌*◌}
 use Rattle.guest_memory.specs.Pages.{Pages}
 use Rattle.page_alloc.specs.declared.layout.Layout.{Layout}
 use Rattle.page_alloc.specs.Layout.{IsLayout, layout_at}

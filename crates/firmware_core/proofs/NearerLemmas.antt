@@ -1,17 +1,16 @@
 -- Each turn that doesn't end a job brings its end nearer.
-use Rattle.std.proofs.Common.{◌≡◌, ◌≢◌, ℕ, ◌+◌, ◌≤◌, ◌<◌, ◌-◌, ◌*◌, Bool, true, false, Option, Some, None, Result, Ok, Err, IfOk, refl, sym, ap, subst, ◌∙◌, arith}
+use Rattle.std.proofs.Common.{◌≡◌, ℕ, ◌≤◌, ◌<◌, Bool, true, false, Option, Some, None, Result, Ok, Err, IfOk, refl, sym, ap, ◌∙◌, arith}
 use Rattle.std.specs.Prelude.{if◌then◌else◌}
-use Rattle.record_text.specs.declared.cause.Cause.TheVariants as causes
 use Rattle.event_queue.specs.declared.event.Entry.{Entry}
 use Rattle.event_queue.specs.declared.event.Notify.{Notify}
-use Rattle.event_queue.specs.Queue.{EventList, Whole, next_entry, notified, after_next}
+use Rattle.event_queue.specs.Queue.{EventList, Whole, next_entry, after_next}
 use Rattle.event_queue.specs.Timers.{has_moment, ticked, after_tick}
 use Rattle.event_queue.specs.Laws.{NextIsAbove, TicksOnce}
 use Rattle.firmware_core.specs.declared.happened.Happened.{Happened}
 use Rattle.firmware_core.specs.declared.happened.Happened.TheVariants.{Turned}
 use Rattle.firmware_core.specs.Frames.{tick_is_due, notice_of, without_notice, with_notification, is_full}
-use Rattle.firmware_core.specs.Turns.{State, Turn, Tick, Notice, with_firmware, tick_turn, next_turn, turn_of, halted}
-use Rattle.firmware_core.specs.Jobs.{counts, steps_left, goes_on}
+use Rattle.firmware_core.specs.Turns.{State, Turn, Tick, Notice, with_firmware, tick_turn, next_turn, turn_of}
+use Rattle.firmware_core.specs.Jobs.{counts, goes_on}
 use Rattle.firmware_core.specs.Views.{due, potential}
 use Rattle.firmware_core.proofs.TurnLemmas.{Comes, Ticks, Notices, Neither, comes, counted_counts, next_is_tick, next_is_notice, next_is_counted, turn_is, full_turn, turn_counts, counts_below}
 

@@ -1,5 +1,5 @@
 -- Parts that still belong together.
-use Rattle.std.proofs.Common.{◌≡◌, ℕ, List, length, ◌∙◌, sym, subst}
+use Rattle.std.proofs.Common.{◌≡◌, List, length, ◌∙◌, sym, subst}
 use Rattle.guest_memory.specs.Pages.{Pages}
 use Rattle.page_alloc.specs.Pages.{PageList}
 use Rattle.pool_alloc.specs.Pool.{BlockPage, Together}

@@ -1,18 +1,17 @@
 -- Few turns count no step, and a job ends.
-use Rattle.std.proofs.Common.{◌≡◌, ◌⊎◌, inl, inr, ℕ, zero, suc, ◌+◌, ◌≤◌, ◌<◌, ◌-◌, Bool, true, false, List, [], ◌∷◌, length, Option, Some, None, refl, sym, ap, ◌∙◌, arith}
+use Rattle.std.proofs.Common.{◌≡◌, ◌⊎◌, inl, inr, ℕ, zero, suc, ◌≤◌, ◌<◌, ◌-◌, Bool, true, false, List, [], ◌∷◌, length, Option, Some, None, refl, sym, ap, ◌∙◌, arith}
 use Rattle.std.specs.List.{filter}
 use Rattle.event_queue.specs.declared.event.Entry.{Entry}
 use Rattle.event_queue.specs.declared.event.Notify.{Notify}
 use Rattle.event_queue.specs.Queue.{EventList, next_entry, after_next}
 use Rattle.event_queue.specs.Timers.{has_moment, ticked, after_tick}
 use Rattle.event_queue.specs.Laws.{NextIsAbove, TicksOnce, IsAbove}
-use Rattle.firmware_core.specs.declared.happened.Happened.{Happened}
 use Rattle.firmware_core.specs.declared.happened.Happened.TheVariants.{Turned, Halted}
 use Rattle.firmware_core.specs.declared.happened.Halt.{Halt}
 use Rattle.firmware_core.specs.Frames.{tick_is_due, with_tick, notice_of, without_notice, with_notification, is_full}
 use Rattle.firmware_core.specs.Turns.{State, Turn, Next, Tick, Notice, Bound, Slot, Instruction, with_firmware, next_turn, turn_of}
 use Rattle.firmware_core.specs.Jobs.{counts, goes_on, steps_left}
-use Rattle.firmware_core.specs.Runs.{FreeTurn, FreeTurns, is_tick, is_start, AreFew, FreeTurnsAreFew, GoesOn, Ends, JobsEnd}
+use Rattle.firmware_core.specs.Runs.{FreeTurn, FreeTurns, is_tick, is_start, FreeTurnsAreFew, Ends, JobsEnd}
 use Rattle.firmware_core.proofs.TurnLemmas.{Comes, Ticks, Notices, Neither, comes, counted_counts, next_is_tick, next_is_notice, next_is_counted, turn_is, full_turn, turn_counts, turn_keeps, turn_happens, counts_below}
 use Rattle.firmware_core.proofs.JobLemmas.{need, need_falls}
 use Rattle.firmware_core.proofs.SilentLemmas.{steps_of, within_by}

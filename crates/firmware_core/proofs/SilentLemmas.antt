@@ -1,21 +1,20 @@
 -- Turns that say nothing.
-use Rattle.std.proofs.Common.{◌≡◌, ◌≢◌, ◌⊎◌, inl, inr, ℕ, zero, suc, ◌+◌, ◌≤◌, ◌<◌, ◌-◌, ◌*◌, Bool, true, false, Option, Some, None, Result, Ok, Err, IfOk, refl, sym, ap, subst, ◌∙◌, arith}
+use Rattle.std.proofs.Common.{◌≡◌, ◌≢◌, ◌⊎◌, inl, inr, ℕ, zero, suc, ◌+◌, ◌≤◌, ◌<◌, ◌-◌, Bool, true, false, Option, Some, None, refl, sym, ap, subst, ◌∙◌, arith}
 use Rattle.std.specs.Prelude.{nat_le, if◌then◌else◌}
 use Rattle.std.specs.Option.{is_some}
 use Rattle.std.proofs.lemmas.Bool.Decides.{nat_tests}
 use Rattle.record_text.specs.declared.cause.Cause.TheVariants as causes
-use Rattle.event_queue.specs.declared.event.Notify.{Notify}
 use Rattle.event_queue.specs.Queue.{EventList, next_entry, notified}
 use Rattle.event_queue.specs.Timers.{has_moment, moment_ahead}
 use Rattle.rv_step.specs.declared.ends.StepEnd.TheVariants as ends
 use Rattle.rv_step.specs.declared.ends.Trap.{Trap}
 use Rattle.firmware_core.specs.declared.happened.Halt.{Halt}
 use Rattle.firmware_core.specs.declared.happened.Happened.{Happened}
-use Rattle.firmware_core.specs.declared.happened.Happened.TheVariants.{Turned, Said, Left, Reset, Halted}
+use Rattle.firmware_core.specs.declared.happened.Happened.TheVariants.{Turned, Halted}
 use Rattle.firmware_core.specs.Parts.{Parts}
 use Rattle.firmware_core.specs.Frames.{tick_is_due, notice_of, Quiet}
 use Rattle.firmware_core.specs.Turns.{State, Turn, next_turn, turn_of, instruction_turn, halted, trapped, instructed, slot_at, passed, counted}
-use Rattle.firmware_core.specs.Jobs.{Job, counts, joined, steps_left, job_of, JobsAreTurns, Silently, SilentlyTo, goes_on, Says}
+use Rattle.firmware_core.specs.Jobs.{counts, joined, steps_left, job_of, JobsAreTurns, Silently, SilentlyTo, goes_on, Says}
 use Rattle.firmware_core.specs.Views.{due, potential}
 use Rattle.firmware_core.proofs.TurnLemmas.{turn_counts, turn_keeps, turn_happens, counts_below, plain_turn, plain_is, trap_is, frames_is}
 

@@ -30,7 +30,6 @@ use Rattle.firmware_core.specs.Frames.{tick_is_due, with_tick, notice_of, withou
 use Rattle.firmware_core.specs.declared.conclusion.Conclusion.{Conclusion}
 use Rattle.firmware_core.specs.declared.conclusion.Conclusion.TheVariants.{Answers, Prints, Continues, Leaves, Resets, Halts}
 use Rattle.firmware_core.specs.Parts.{Parts}
-use Rattle.firmware_core.specs.Services as services
 use Rattle.firmware_core.specs.Turns.{State, Turn, Next, Tick, Notice, Bound, Slot, Instruction, with_firmware, with_carried, Instructed, instructed, by_slot, slot_at, counted, carried_out, service_turn, instruction_turn, counted_next, next_turn, by_next, turn_of, halted, trapped}
 use Rattle.firmware_core.specs.Turns as turns
 use Rattle.firmware_core.specs.Jobs.{counts, goes_on}

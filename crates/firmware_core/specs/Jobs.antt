@@ -1,5 +1,5 @@
 -- A job: an image that is started, and its turns to the end.
-use Rattle.std.specs.Prelude.{ℕ, zero, suc, ◌≡◌, ◌≢◌, ◌+◌, ◌-◌, ◌*◌, ◌<◌, ◌≤◌, List, [], ◌∷◌, length, Bool, true, false, Option, Some, None, if◌then◌else◌}
+use Rattle.std.specs.Prelude.{ℕ, zero, suc, ◌≡◌, ◌≢◌, ◌-◌, ◌<◌, ◌≤◌, List, [], ◌∷◌, length, Bool, true, false, Option, Some, None, if◌then◌else◌}
 use Rattle.record_text.specs.declared.line.Line.{Line}
 use Rattle.record_text.specs.declared.cause.Cause.TheVariants as causes
 use Rattle.event_queue.specs.Timers.{after_tick}
@@ -11,7 +11,6 @@ use Rattle.firmware_core.specs.declared.happened.JobEnd.{JobEnd}
 use Rattle.firmware_core.specs.declared.happened.JobEnd.TheVariants as ends
 use Rattle.firmware_core.specs.declared.job.Job as declared
 use Rattle.firmware_core.specs.declared.job.Job.TheVariants.{Start}
-use Rattle.firmware_core.specs.Parts.{Parts}
 use Rattle.firmware_core.specs.Frames.{with_image}
 use Rattle.firmware_core.specs.Turns.{State, Turn, Next, Tick, Notice, Bound, Slot, Instruction, next_turn, turn_of}
 

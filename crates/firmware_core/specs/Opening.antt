@@ -5,7 +5,6 @@ use Rattle.guest_memory.specs.Pages.{Pages, all_rights}
 use Rattle.guest_memory.specs.Changes.{reserved, with_rights}
 use Rattle.page_alloc.specs.declared.layout.Layout.{Layout}
 use Rattle.page_alloc.specs.Layout.{layout_at}
-use Rattle.page_alloc.specs.Pages.{PageList}
 use Rattle.page_alloc.specs.Opening.{opening_pages}
 use Rattle.uh_base.specs.declared.guid.Guid.{Guid}
 use Rattle.handle_db.specs.Database.{fresh as fresh_protocol}

@@ -22,7 +22,6 @@ use Rattle.image_services.specs.Images.{Loaded, find_image}
 use Rattle.image_services.specs.Stores.{Store}
 use Rattle.image_services.specs.Unloads.{discarded}
 use Rattle.image_calls.specs.Starts.{StartDone, outputs_given}
-use Rattle.virtual_map.specs.States.{Runtime}
 use Rattle.firmware_core.specs.declared.frame.Ending.{Ending}
 use Rattle.firmware_core.specs.declared.frame.Frame.{Frame}
 use Rattle.firmware_core.specs.declared.frame.Purpose.{Purpose}

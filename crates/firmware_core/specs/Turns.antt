@@ -16,7 +16,6 @@ use Rattle.firmware_core.specs.declared.conclusion.Conclusion.TheVariants.{Answe
 use Rattle.event_queue.specs.declared.event.Notify.{Notify}
 use Rattle.firmware_core.specs.Parts.{Parts}
 use Rattle.firmware_core.specs.Frames.{answered, tick_is_due, with_tick, notice_of, without_notice, is_full, with_notification}
-use Rattle.firmware_core.specs.Services.{Concluded}
 use Rattle.firmware_core.specs.Slots.{serve_slot}
 
 -- the parts, the job under way with its counted steps and their bound, and whether each answer of a service is a line

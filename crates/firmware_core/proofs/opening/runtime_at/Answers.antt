@@ -1,4 +1,4 @@
-use Rattle.std.proofs.Common.{◌≡◌, ℕ, sym, ap, ◌∙◌, length}
+use Rattle.std.proofs.Common.{ap, ◌∙◌, length}
 use Rattle.page_alloc.specs.Pages.{PageList}
 use Rattle.firmware_core.proofs.LayoutLemmas.{ram_of}
 use Rattle.firmware_core.proofs.opening.runtime_at.Goals as goal

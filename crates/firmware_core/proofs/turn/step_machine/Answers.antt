@@ -1,4 +1,4 @@
-use Rattle.std.proofs.Common.{◌≡◌, true, false, sym, ap, ◌∙◌}
+use Rattle.std.proofs.Common.{◌≡◌, false, sym, ap, ◌∙◌}
 use Rattle.firmware_core.specs.Frames.{tick_is_due}
 use Rattle.firmware_core.specs.Turns.{State}
 use Rattle.firmware_core.proofs.TurnLemmas.{tick_now, notice_now, quiet_now, counted_now}

@@ -1,4 +1,4 @@
-use Rattle.std.proofs.Common.{◌≡◌, ◌≤◌, ◌<◌, ℕ, arith, refl, sym, ap, subst, ◌∙◌}
+use Rattle.std.proofs.Common.{◌≡◌, ◌≤◌, arith, refl, sym, ap, subst, ◌∙◌}
 use Rattle.firmware_core.specs.Parts.{Parts}
 use Rattle.firmware_core.specs.Turns.{State, trapped}
 use Rattle.firmware_core.proofs.TurnLemmas.{trap_leaves, frames_leave, next_is, none_by}
