@@ -3,3 +3,4 @@ pub mod NextLemmas
 pub mod ProperKinds
 pub mod Bridge
 pub mod InPlace
+pub mod ReachedLemmas

@@ -6,3 +6,4 @@ pub mod Successors
 pub mod Rules
 pub mod Seen
 pub mod Judged
+pub mod Reached
