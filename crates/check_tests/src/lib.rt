@@ -1,0 +1,5 @@
+//! Tests of the rules of a driver and its certificate.
+#![tactic(auto)]
+
+#[cfg(test)]
+mod rows;
