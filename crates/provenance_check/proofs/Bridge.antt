@@ -1,15 +1,13 @@
 -- From tests to what they establish.
 use Rattle.std.proofs.Common.{◌≡◌, ℕ, zero, suc, ◌≤◌, ◌<◌, ◌+◌, ◌-◌, ◌%◌, ◌/◌, ◌*◌, ◌⊎◌, arith, Bool, true, false, refl, sym, ◌∙◌, ap, subst, Option, Some, None, List, [], ◌∷◌, length, inl, inr}
-use Rattle.std.specs.Prelude.{◌==◌, ◌&&◌, ◌||◌, not, nat_le, nat_lt, if◌then◌else◌, slice_get, slice_index, slice_set, slice_index_or, replicate, is_some, IsTrue}
+use Rattle.std.specs.Prelude.{◌==◌, ◌&&◌, ◌||◌, not, nat_le, nat_lt, if◌then◌else◌, slice_get, slice_index, slice_set, slice_index_or, replicate, is_some}
 use Rattle.std.specs.List.{Contains, list_any}
 use Rattle.std.proofs.lemmas.Bool.Decides.{nat_tests}
 use Rattle.std.proofs.lemmas.List.{get_or_past, length-set}
 use Rattle.std.proofs.lemmas.Nat.{le-div}
 use Rattle.rv_decode.specs.declared.insn.Insn.{Insn}
-use Rattle.rv_decode.specs.declared.insn.Op.{Op}
 use Rattle.rv_step.specs.declared.bus.Access.TheVariants as access
 use Rattle.rv_step.specs.Exec.{Rights}
-use Rattle.uh_base.specs.Bytes.{plus}
 use Rattle.prov_types.specs.declared.kinds.Span.{Span}
 use Rattle.prov_types.specs.declared.kinds.Kind.{Kind}
 use Rattle.prov_types.specs.declared.kinds.Kind.TheVariants.{Any, Num, Ptr, Opt}
@@ -18,13 +16,13 @@ use Rattle.prov_types.specs.Spans.{InSpan, one}
 use Rattle.prov_types.specs.Kinds.{length_of}
 use Rattle.prov_types.specs.Fits.{fits}
 use Rattle.prov_types.specs.Narrow.{narrow}
-use Rattle.prov_types.specs.Asked.{KindAsk, Sets, Loads, Stores, Forks, Goes, Jumps, Stops, asked_kinds, may_compare}
+use Rattle.prov_types.specs.Asked.{KindAsk, Sets, Loads, Stores, Forks, Goes, Jumps, Stops, asked_kinds}
 use Rattle.prov_cert.specs.declared.cert.RegKind.{RegKind}
 use Rattle.prov_cert.specs.declared.cert.StackPart.{StackPart}
 use Rattle.prov_cert.specs.Cert.{Node}
 use Rattle.prov_layout.specs.Offsets.{at_each, count, every}
 use Rattle.prov_layout.specs.Pieces.{is_shut, piece_at, shown}
-use Rattle.prov_layout.specs.Loads.{read_kind, span_kind}
+use Rattle.prov_layout.specs.Loads.{span_kind}
 use Rattle.prov_layout.specs.Stores.{is_number, store_keeps}
 use Rattle.prov_layout.specs.Stack.{part_kind}
 use Rattle.provenance_check.specs.declared.rule.Rule.{Rule}
@@ -33,9 +31,9 @@ use Rattle.provenance_check.specs.Ground.{AreFormed, Ground}
 use Rattle.provenance_check.specs.Registers.{kind_at, kinds_of, naming, written}
 use Rattle.provenance_check.specs.Reading.{insn_at, place_of}
 use Rattle.provenance_check.specs.Accesses.{is_allowed, loaded, loaded_outside, stack_allows, stores, stores_at}
-use Rattle.provenance_check.specs.Successors.{Before, Successor, Target, Inner, Out, Converts, Astray, behind_conversion, behind_jump, cell_in, even_offset, link_kind, on_at, or_any, narrowed, parts_behind, successors, target_by}
+use Rattle.provenance_check.specs.Successors.{Before, Successor, Target, Inner, Out, Converts, Astray, behind_conversion, behind_jump, cell_in, even_offset, link_kind, on_at, or_any, narrowed, successors, target_by}
 use Rattle.provenance_check.specs.Rules.{all_above, are_among, before, convert_rule, converts, converts_by, converts_cell, disposition, edges, exit_rule, first_of, first_rule, has_part, is_exit, is_marked, is_value, jump_rule, kinds_fit, leads, leaves, load_rule, order_rule, parts_fit, same_cells, serves, site_rule, store_rule, tests, tests_at, unconverted_rule}
-use Rattle.provenance_check.specs.Judged.{AllowedAt, BranchPasses, ConversionLeads, ConvertPasses, EdgeLeads, InOrder, JumpPasses, Judged, Leads, LoadPasses, LoadsGive, LoadsOutside, NoneFailsJudges, OnStack, OutPasses, PartIn, PartsFit, Passes, ServesPart, StorePasses, StoresOutside}
+use Rattle.provenance_check.specs.Judged.{AllowedAt, ConversionLeads, ConvertPasses, EdgeLeads, InOrder, JumpPasses, Judged, Leads, LoadsGive, LoadsOutside, NoneFailsJudges, OnStack, PartIn, PartsFit, Passes, StoresOutside}
 use Rattle.provenance_check.proofs.Runs.{both, le_of, of_every}
 use Rattle.provenance_check.proofs.ProperKinds.{kinds_proper}
 

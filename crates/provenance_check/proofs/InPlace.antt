@@ -1,10 +1,10 @@
 -- Pieces of which each is behind the one before it.
-use Rattle.std.proofs.Common.{◌≡◌, ℕ, zero, suc, ◌≤◌, ◌<◌, ◌+◌, ◌-◌, ◌⊎◌, arith, Bool, true, false, refl, sym, ◌∙◌, ap, subst, Some, None, List, length, get_or, inl, inr}
+use Rattle.std.proofs.Common.{◌≡◌, ℕ, zero, suc, ◌≤◌, ◌<◌, ◌+◌, ◌-◌, arith, Bool, true, false, refl, sym, ◌∙◌, ap, subst, Some, List, length, get_or, inl, inr}
 use Rattle.std.specs.Prelude.{slice_get, nat_lt}
 use Rattle.std.proofs.lemmas.Bool.Decides.{nat_tests}
 use Rattle.std.proofs.lemmas.Option.{slice_get-get_or, slice_get_within}
 use Rattle.prov_layout.specs.declared.piece.Piece.{Piece}
-use Rattle.prov_layout.specs.Pieces.{AreOrdered, IsBefore, IsProperClass}
+use Rattle.prov_layout.specs.Pieces.{AreOrdered, IsBefore}
 use Rattle.provenance_check.specs.Ground.{BehindAt, ProperAt}
 
 pub up_to : (pieces : List Piece) (n : ℕ) → ((k : ℕ) → k < n → ProperAt pieces k × BehindAt pieces k) → ProperAt pieces n → BehindAt pieces n → (k : ℕ) → k < n + 1 → ProperAt pieces k × BehindAt pieces k

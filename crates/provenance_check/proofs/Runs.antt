@@ -1,5 +1,5 @@
 -- Tests at many numbers.
-use Rattle.std.proofs.Common.{◌≡◌, ℕ, zero, suc, ◌≤◌, ◌<◌, ◌+◌, ◌-◌, ◌*◌, ◌/◌, ◌%◌, arith, Bool, true, false, refl, ◌∙◌, ap}
+use Rattle.std.proofs.Common.{◌≡◌, ℕ, zero, suc, ◌≤◌, ◌<◌, ◌+◌, ◌-◌, ◌*◌, ◌/◌, ◌%◌, arith, Bool, true, false, refl, ◌∙◌, ap, Some, None}
 use Rattle.std.specs.Prelude.{◌&&◌, nat_le, slice_index}
 use Rattle.std.proofs.lemmas.Bool.Decides.{nat_tests}
 use Rattle.std.proofs.Math.Nat.{add-mul, div-mul-le_self, mod-eq-sub-div-mul}
@@ -8,6 +8,7 @@ use Rattle.prov_types.specs.Spans.{IsProper}
 use Rattle.prov_types.specs.Kinds.{length_of}
 use Rattle.prov_layout.specs.Offsets.{every, count, at_each}
 use Rattle.provenance_check.specs.Ground.{Ground}
+use Rattle.provenance_check.specs.Entries.{first_from}
 use Rattle.provenance_check.specs.Accesses.{is_allowed}
 
 pub both : (a b : Bool) → (a && b) ≡ true → (a ≡ true) × (b ≡ true)
@@ -110,3 +111,26 @@ at_each_both f g s = rw (every_both f g s.lo s.by (count s)) (turn (nat_le (coun
     turn : (a b c : Bool) → (a && (b && c)) ≡ ((a && b) && c)
     turn true b c = refl
     turn false b c = refl
+
+-- the first number at which a test fails
+
+pub none_from : (test : ℕ → Bool) (i n : ℕ) → ((k : ℕ) → k < n → test (i + k) ≡ true) → first_from test i n ≡ None
+unfolding first_from
+none_from test i zero h = refl
+none_from test i (suc n) h =
+    let z : i ≡ i + 0 = omega arith in
+    let a : test i ≡ true = ap test z ∙ h 0 (omega arith) in
+    rw a (none_from test (i + 1) n (λ k l. let e : i + 1 + k ≡ i + suc k = omega arith in ap test e ∙ h (suc k) (omega (arith, l))))
+
+pub fails_from : (test : ℕ → Bool) (i n m : ℕ) → m < n → ((k : ℕ) → k < m → test (i + k) ≡ true) → test (i + m) ≡ false → first_from test i n ≡ Some (i + m)
+unfolding first_from
+fails_from test i zero m l h e = absurd (omega arith)
+fails_from test i (suc n) zero l h e =
+    let z : i ≡ i + 0 = omega arith in
+    let a : test i ≡ false = ap test z ∙ e in
+    rw a (ap Some z)
+fails_from test i (suc n) (suc m) l h e =
+    let z : i ≡ i + 0 = omega arith in
+    let a : test i ≡ true = ap test z ∙ h 0 (omega arith) in
+    let y : i + 1 + m ≡ i + suc m = omega arith in
+    rw a (fails_from test (i + 1) n m (omega (arith, l)) (λ k q. let w : i + 1 + k ≡ i + suc k = omega arith in ap test w ∙ h (suc k) (omega (arith, q))) (ap test y ∙ e) ∙ ap Some y)

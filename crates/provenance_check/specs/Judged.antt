@@ -1,5 +1,5 @@
 -- What is so of a node where none of its rules fails, as a law about its instruction needs it.
-use Rattle.std.specs.Prelude.{ℕ, ◌≡◌, ◌≢◌, ◌⊎◌, ◌+◌, ◌%◌, ◌<◌, ◌≤◌, ◌==◌, Bool, true, false, List, [], ◌∷◌, Option, Some, None, if◌then◌else◌, slice_get, slice_index}
+use Rattle.std.specs.Prelude.{ℕ, ◌≡◌, ◌⊎◌, ◌+◌, ◌%◌, ◌<◌, ◌≤◌, ◌==◌, Bool, true, false, List, [], ◌∷◌, Option, Some, None, slice_get, slice_index}
 use Rattle.std.specs.List.{Contains, list_any}
 use Rattle.rv_decode.specs.declared.insn.Insn.{Insn}
 use Rattle.rv_decode.specs.declared.insn.Op.{Op}
@@ -8,7 +8,7 @@ use Rattle.rv_step.specs.Exec.{Rights}
 use Rattle.uh_base.specs.Bytes.{plus}
 use Rattle.prov_types.specs.declared.kinds.Span.{Span}
 use Rattle.prov_types.specs.declared.kinds.Kind.{Kind}
-use Rattle.prov_types.specs.declared.kinds.Kind.TheVariants.{Any, Num, Ptr, Opt}
+use Rattle.prov_types.specs.declared.kinds.Kind.TheVariants.{Num, Ptr}
 use Rattle.prov_types.specs.declared.kinds.Place.{Place}
 use Rattle.prov_types.specs.Spans.{InSpan, one}
 use Rattle.prov_types.specs.Kinds.{IsProperKind, length_of}
@@ -20,10 +20,10 @@ use Rattle.prov_cert.specs.Cert.{Node}
 use Rattle.prov_layout.specs.Pieces.{is_shut, piece_at, shown}
 use Rattle.prov_layout.specs.Loads.{read_kind, span_kind}
 use Rattle.prov_layout.specs.Stores.{is_number, store_keeps}
-use Rattle.prov_layout.specs.Stack.{part_kind, with_part}
+use Rattle.prov_layout.specs.Stack.{part_kind}
 use Rattle.provenance_check.specs.Ground.{AreFormed, Ground}
 use Rattle.provenance_check.specs.Registers.{kind_at, kinds_of, written}
-use Rattle.provenance_check.specs.Reading.{insn_at, is_clear, is_lui, place_of}
+use Rattle.provenance_check.specs.Reading.{insn_at, place_of}
 use Rattle.provenance_check.specs.Successors.{Before, Successor, Target, Inner, Out, Converts, Astray, and_cell, cell_in, cell_number, even_offset, link_kind, on_at, parts_behind, target_by}
 use Rattle.provenance_check.specs.Rules.{before, disposition, first_rule, is_exit, is_marked, is_value, site_rule}
 

@@ -7,3 +7,4 @@ pub mod Rules
 pub mod Seen
 pub mod Judged
 pub mod Reached
+pub mod Entries

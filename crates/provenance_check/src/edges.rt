@@ -31,7 +31,7 @@ pub(crate) struct Behind<'a> {
 }
 
 /// Whether each register's kind fits another.
-fn kinds_fit(have: &[Kind; 32], want: &[Kind; 32]) -> bool
+pub(crate) fn kinds_fit(have: &[Kind; 32], want: &[Kind; 32]) -> bool
     requires { (r : ℕ) → IsProperKind (kind_at want.now r) }
     ensures { result ≡ kinds_fit have.now want.now }
 {
@@ -87,7 +87,7 @@ fn has_part_behind(stored: Option<StackPart>, parts: &[StackPart], p: &StackPart
 
 /// Whether each part that is wanted is there.
 #[tactic(auto, unfolding(crate::specs::Rules::parts_fit))]
-fn parts_fit(stored: Option<StackPart>, parts: &[StackPart], want: &[StackPart]) -> bool
+pub(crate) fn parts_fit(stored: Option<StackPart>, parts: &[StackPart], want: &[StackPart]) -> bool
     requires { AreParts want.now }
     ensures { result ≡ parts_fit (parts_with stored parts.now) want.now }
 {

@@ -7,6 +7,7 @@ mod branches;
 mod check;
 mod conditions;
 mod edges;
+mod entries;
 mod ground;
 mod jumps;
 mod laws;
@@ -18,6 +19,7 @@ mod rule;
 
 pub use check::check_node;
 pub use conditions::{are_formed, are_ordered, regions_end};
+pub use entries::check_entries;
 pub use ground::{Ground, PageRights};
 pub use laws::none_fails_judges;
 pub use marks::reached;

@@ -1,4 +1,4 @@
-use Rattle.std.proofs.Common.{◌≡◌, ◌<◌, ◌+◌, ℕ, suc, Some, get_or}
+use Rattle.std.proofs.Common.{◌<◌, ◌+◌, ℕ}
 use Rattle.std.specs.Prelude.{slice_index, ◌^◌}
 use Rattle.prov_types.specs.Kinds.{length_of}
 use Rattle.provenance_check.proofs.conditions.regions_end.Given as goal
