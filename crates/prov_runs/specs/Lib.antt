@@ -1,0 +1,5 @@
+pub mod Bytes
+pub mod Sites
+pub mod Memory
+pub mod States
+pub mod LoadLaws

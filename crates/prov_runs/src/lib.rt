@@ -1,0 +1,7 @@
+//! Laws of a driver's certificate over two runs: one whose memory is mapped where it was loaded, and one whose memory is
+//! mapped elsewhere.
+#![tactic(auto)]
+
+mod loads;
+
+pub use loads::{joins_hold, loads_hold, reads_hold};
