@@ -5,3 +5,4 @@ pub mod PieceLemmas
 pub mod NumberLemmas
 pub mod LoadLemmas
 pub mod ReadLemmas
+pub mod StoreLemmas

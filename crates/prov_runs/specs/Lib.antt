@@ -3,3 +3,4 @@ pub mod Sites
 pub mod Memory
 pub mod States
 pub mod LoadLaws
+pub mod StoreLaws

@@ -3,5 +3,7 @@
 #![tactic(auto)]
 
 mod loads;
+mod stores;
 
 pub use loads::{joins_hold, loads_hold, reads_hold};
+pub use stores::{regions_stay, stack_stores_keep, stores_keep};
