@@ -1,29 +1,39 @@
 -- What a script that is read keeps: what each part of the reading asked for.
-use Rattle.std.proofs.Common.{◌≡◌, ℕ, ◌+◌, ◌*◌, ◌^◌, ◌≤◌, Bool, true, false, ◌&&◌, nat_lt, nat_le, List, [], ◌∷◌, ◌++◌, length, codes, Option, Some, None, Result, Ok, Err, refl, sym, ap, ◌∙◌, append_assoc, arith, subst}
+use Rattle.std.proofs.Common.{◌≡◌, ℕ, ◌+◌, ◌*◌, ◌^◌, ◌≤◌, Bool, true, false, ◌&&◌, ◌||◌, not, nat_lt, nat_le, List, [], ◌∷◌, ◌++◌, length, codes, Option, Some, None, Result, Ok, Err, refl, sym, ap, ◌∙◌, append_assoc, arith, subst}
 use Rattle.std.specs.Prelude.{if◌then◌else◌, ◌==◌, unwrap_or, pos, negsuc}
 use Rattle.std.specs.Str.{bytes_eq, is_utf8}
 use Rattle.std.proofs.lemmas.Bool.Decides.{nat_tests}
 use Rattle.std.proofs.lemmas.List.{append-nil}
-use Rattle.toml.specs.Data.{Data, integer, Items, no_items, item, Members, get_member, as_table}
+use Rattle.toml.specs.Data.{Data, integer, Items, no_items, item, Members, get_member, as_str, as_table}
 use Rattle.toml.specs.Parse.{parse_document}
 use Rattle.uh_base.specs.Names.{is_name}
 use Rattle.host_script.specs.Faults.{◌>>=◌, Place, placed}
-use Rattle.host_script.specs.Fields.{only_keys, text_field, number_field, integer_in, integer_field, tables_field, items_len, counted, needed}
-use Rattle.host_script.specs.Script.{has_image, table_of, Top, not_empty, steps_field, is_ram_base, or_4096, ram_pages_of, pages_to_judge, base_or, ram_base_of, top_keys, top_of, new_name, text_limit, short_text, one_of, origin_of, image_in, image_at, images_of, known_name, step_image, or_million, bound_of, load_in, start_in, memmap_in, step_by, step_in, step_at, steps_of, whole, with_steps, script_of, of_document, script_in}
+use Rattle.host_script.specs.Fields.{only_keys, has_key, text_field, number_field, integer_in, integer_field, or_usual, integer_or, tables_field, items_len, counted, needed}
+use Rattle.host_script.specs.Script.{has_image, table_of, Top, not_empty, steps_field, is_ram_base, or_4096, ram_pages_of, pages_to_judge, base_or, ram_base_of, only_top_keys, top_of, new_name, text_limit, short_text, one_of, origin_of, image_in, image_at, images_of, known_name, step_image, or_million, bound_of, load_in, start_in, unload_in, exit_boot_in, check_in, asked, map_limit, map_in, slot_or_value, service_target, image_target, target_of, with_lists, only_call_keys, call_in, peek_in, memmap_in, vars_in, later_step, step_by, step_in, step_at, steps_of, whole, with_steps, script_of, of_document, script_in}
 use Rattle.host_script.specs.Plain.{Plain}
-use Rattle.host_script.specs.Lists.{texts_field, forms_of, few}
+use Rattle.host_script.specs.Lists.{text_or_shape, or_value, form_at, texts_field, forms_of, few, listed}
 use Rattle.host_script.specs.Settings.{Settings, is_time, usual_time, time_or, time_of, rises, rising, ticks_of, trace_of, settings_of}
 use Rattle.uh_base.specs.Numbers.{number_of}
 use Rattle.time_service.specs.Times.{is_valid}
 use Rattle.time_service.specs.Texts.{clock_of, fits_form, time_in}
-use Rattle.host_script.specs.Forms.{IsOrigin, AreImages, IsStep, AreSteps, IsScript, ScriptsKeepForms}
+use Rattle.host_script.specs.Forms.{IsOrigin, AreImages, Each, IsSlot, IsTarget, IsBuffer, IsShown, IsCall, IsMap, IsStep, AreSteps, IsScript, ScriptsKeepForms}
 use Rattle.host_script.specs.declared.fault.ScriptKind.{ScriptKind}
 use Rattle.host_script.specs.declared.fault.ScriptKind.TheVariants as kinds
 use Rattle.host_script.specs.declared.script.Origin.{Origin}
 use Rattle.host_script.specs.declared.script.Origin.TheVariants.{File, Text}
 use Rattle.host_script.specs.declared.script.ImageSpec.{ImageSpec}
 use Rattle.host_script.specs.declared.script.Step.{Step}
-use Rattle.host_script.specs.declared.script.Step.TheVariants.{Load, Start, MemMap}
+use Rattle.host_script.specs.declared.script.Step.TheVariants.{Load, Unload, Start, ExitBoot, Check, Map, Call, Peek, MemMap, Vars}
+use Rattle.host_script.specs.declared.script.Arg.{Arg}
+use Rattle.host_script.specs.declared.script.Buffer.{Buffer}
+use Rattle.host_script.specs.declared.script.MapEntry.{MapEntry}
+use Rattle.host_script.specs.declared.script.Shown.{Shown}
+use Rattle.host_script.specs.declared.script.Target.{Target}
+use Rattle.host_script.specs.declared.script.Target.TheVariants as targets
+use Rattle.record_text.specs.HexBytes.{bytes_of}
+use Rattle.record_text.specs.Services.{service_slot}
+use Rattle.host_script.specs.Steps.{MapPlain, CallPlain}
+use Rattle.host_script.specs.Words.{◌>>=?◌, cut, small_number, entry_of, arg_of, is_buffer, buffer_of, is_shown, shown_of}
 
 -- ---- a chain that ends well has no fault on its way
 
@@ -235,16 +245,255 @@ memmap_read images table step h =
     let same : MemMap ≡ step = cc in
     subst (IsStep images) same tt
 
+few_are : {A : Type 0} (most : ℕ) (items kept : List A) → few most items ≡ Ok kept → (items ≡ kept) × (length kept ≤ most)
+few_are most items kept h =
+    let p = refused (nat_lt most (length items)) items kept kinds.Count h in
+    let test : nat_lt most (length items) ≡ false = p.0 in
+    let few : length items ≤ most = grind (arith, nat_tests, test) in
+    let same : items ≡ kept = p.1 in
+    (same, rw (← same) few)
+
+-- ---- lists of texts, each read by a form
+
+pub record Met {A B : Type 0} (o : Option A) (f : A → Option B) (y : B) : Type 0 where
+  x : A
+  first : o ≡ Some x
+  then_ : f x ≡ Some y
+
+met : {A B : Type 0} (o : Option A) (f : A → Option B) (y : B) → (o >>=? f) ≡ Some y → Met o f y
+met (Some x) f y h = record { x = x; first = refl; then_ = h }
+met None f y h = cc
+
+tested : {A : Type 0} (b : Bool) (x y : A) → (if b then Some x else None) ≡ Some y → (b ≡ true) × (x ≡ y)
+tested true x y h = (refl, cc)
+tested false x y h = cc
+
+Each-snoc : {A : Type 0} (P : A → Type 0) (before : List A) (x : A) → Each P before → P x → Each P (before ++ x ∷ [])
+Each-snoc P [] x h p = (p, tt)
+Each-snoc P (y ∷ ys) x h p = (h.0, Each-snoc P ys x h.1 p)
+
+formed : {A : Type 0} (P : A → Type 0) (read : Option A) (x : A) → ((y : A) → read ≡ Some y → P y) → or_value read ≡ Ok x → P x
+formed P None x each h = cc
+formed P (Some y) x each h = let same : y ≡ x = cc in subst P same (each y refl)
+
+module _ {A : Type 0} (form : List ℕ → Option A) (P : A → Type 0) (each : (text : List ℕ) (x : A) → form text ≡ Some x → P x) where
+  form_kept : (content : Data) (x : A) → form_at form content ≡ Ok x → P x
+  unfolding form_at
+  form_kept content x h =
+      let text = went (text_or_shape (as_str content)) (λ text. or_value (form text)) x h in
+      formed P (form text.x) x (each text.x) text.then_
+
+  forms_kept : (before : List A) (items : Items) (xs : List A) → forms_of form before items ≡ Ok xs → Each P before → Each P xs
+  unfolding forms_of
+  forms_kept before no_items xs h all = let same : before ≡ xs = cc in subst (Each P) same all
+  forms_kept before (item content items) xs h all =
+      let x = went (form_at form content) (λ x. forms_of form (before ++ x ∷ []) items) xs h in
+      forms_kept (before ++ x.x ∷ []) items xs x.then_ (Each-snoc P before x.x all (form_kept content x.x x.first))
+
+  listed_kept : (key : List ℕ) (most : ℕ) (table : Members) (xs : List A) → listed form key most table ≡ Ok xs → Each P xs × (length xs ≤ most)
+  unfolding listed
+  listed_kept key most table xs h =
+      let all = went (texts_field key table >>= forms_of form []) (few most) xs h in
+      let items = went (texts_field key table) (forms_of form []) all.x all.first in
+      let count = few_are most all.x xs all.then_ in
+      (subst (Each P) count.0 (forms_kept [] items.x all.x items.then_ tt), count.1)
+
+listed_few : {A : Type 0} (form : List ℕ → Option A) (key : List ℕ) (most : ℕ) (table : Members) (xs : List A) → listed form key most table ≡ Ok xs → length xs ≤ most
+listed_few form key most table xs h = (listed_kept form (λ _. Unit {0}) (λ _ _ _. tt) key most table xs h).1
+
+buffer_is : (offset : ℕ) (hex : List ℕ) (buffer : Buffer) → (if is_buffer offset hex then Some (record { offset = offset; hex = hex }) else None) ≡ Some buffer → IsBuffer buffer
+buffer_is offset hex buffer h =
+    let made : Buffer = record { offset = offset; hex = hex } in
+    let p = tested (is_buffer offset hex) made buffer h in
+    subst IsBuffer p.1 p.0
+
+buffer_kept : (text : List ℕ) (buffer : Buffer) → buffer_of text ≡ Some buffer → IsBuffer buffer
+unfolding buffer_of
+buffer_kept text buffer h =
+    let parts = met (cut text) _ buffer h in
+    let offset = met (small_number parts.x.0) _ buffer parts.then_ in
+    let hex = met (bytes_of parts.x.1) _ buffer offset.then_ in
+    buffer_is offset.x hex.x buffer hex.then_
+
+shown_is : (offset len : ℕ) (shown : Shown) → (if is_shown offset len then Some (record { offset = offset; len = len }) else None) ≡ Some shown → IsShown shown
+shown_is offset len shown h =
+    let made : Shown = record { offset = offset; len = len } in
+    let p = tested (is_shown offset len) made shown h in
+    subst IsShown p.1 p.0
+
+shown_kept : (text : List ℕ) (shown : Shown) → shown_of text ≡ Some shown → IsShown shown
+unfolding shown_of
+shown_kept text shown h =
+    let parts = met (cut text) _ shown h in
+    let offset = met (small_number parts.x.0) _ shown parts.then_ in
+    let len = met (small_number parts.x.1) _ shown offset.then_ in
+    shown_is offset.x len.x shown len.then_
+
+-- ---- further steps
+
+unload_read : (images : List ImageSpec) (table : Members) (step : Step) → unload_in images table ≡ Ok step → IsStep images step
+unfolding unload_in
+unload_read images table step h =
+    let keys = went (only_keys (codes "do" ∷ codes "image" ∷ []) table) _ step h in
+    let image = went (step_image images table) (λ image. Ok (Unload image)) step keys.then_ in
+    let same : Unload image.x ≡ step = cc in
+    subst (IsStep images) same (image_known images table image.x image.first)
+
+exit_boot_read : (images : List ImageSpec) (table : Members) (step : Step) → exit_boot_in images table ≡ Ok step → IsStep images step
+unfolding exit_boot_in
+exit_boot_read images table step h =
+    let keys = went (only_keys (codes "do" ∷ codes "image" ∷ codes "key" ∷ []) table) _ step h in
+    let image = went (step_image images table) _ step keys.then_ in
+    let key = went (number_field (codes "key") table) (λ key. Ok (ExitBoot image.x key)) step image.then_ in
+    let same : ExitBoot image.x key.x ≡ step = cc in
+    subst (IsStep images) same (image_known images table image.x image.first)
+
+check_read : (images : List ImageSpec) (table : Members) (step : Step) → check_in images table ≡ Ok step → IsStep images step
+unfolding check_in
+check_read images table step h =
+    let keys = went (only_keys (codes "do" ∷ codes "image" ∷ codes "file" ∷ codes "text" ∷ []) table) _ step h in
+    let image = went (step_image images table) _ step keys.then_ in
+    let origin = went (origin_of table) (λ origin. Ok (Check image.x origin)) step image.then_ in
+    let same : Check image.x origin.x ≡ step = cc in
+    subst (IsStep images) same (image_known images table image.x image.first, origin_kept table origin.x origin.first)
+
+usual_range : (key : List ℕ) (usual n : ℕ) (table : Members) → usual ≤ map_limit → integer_or key 0 map_limit usual table ≡ Ok n → n ≤ map_limit
+unfolding integer_or integer_field
+usual_range key usual n table small h =
+    let p = went (integer_in 0 map_limit (get_member key table)) (or_usual usual) n h in
+    let same : unwrap_or p.x usual ≡ n = cc in
+    let range = integer_range 0 map_limit (get_member key table) p.x p.first in
+    rw (← same) (given_or 0 map_limit usual p.x range (omega arith) small).1
+
+map_read : (images : List ImageSpec) (table : Members) (step : Step) → map_in table ≡ Ok step → IsStep images step
+unfolding map_in
+map_read images table step h =
+    let keys = went (only_keys (codes "do" ∷ codes "entries" ∷ codes "size" ∷ codes "version" ∷ []) table) _ step h in
+    let asks = went (asked (codes "entries") table) _ step keys.then_ in
+    let entries = went (listed entry_of (codes "entries") 1024 table) _ step asks.then_ in
+    let size = went (integer_or (codes "size") 0 map_limit 40 table) _ step entries.then_ in
+    let version = went (integer_or (codes "version") 0 map_limit 1 table) (λ version. Ok (Map (record { entries = entries.x; size = size.x; version = version }))) step size.then_ in
+    let made : MapPlain = record { entries = entries.x; size = size.x; version = version.x } in
+    let same : Map made ≡ step = cc in
+    subst (IsStep images) same (record {
+      few_entries = listed_few entry_of (codes "entries") 1024 table entries.x entries.first;
+      size = usual_range (codes "size") 40 size.x table (omega arith) size.first;
+      version = usual_range (codes "version") 1 version.x table (omega arith) version.first;
+    })
+
+slot_kept : (images : List ImageSpec) (name : List ℕ) (slot : Option ℕ) (target : Target) → service_slot name ≡ slot → slot_or_value slot ≡ Ok target → IsTarget images target
+slot_kept images name None target is h = cc
+slot_kept images name (Some slot) target is h =
+    let same : targets.Service slot ≡ target = cc in
+    subst (IsTarget images) same (record { name = name; is = is })
+
+service_kept : (images : List ImageSpec) (table : Members) (target : Target) → service_target table ≡ Ok target → IsTarget images target
+unfolding service_target
+service_kept images table target h =
+    let name = went (needed (text_field (codes "service") table)) (λ name. slot_or_value (service_slot name)) target h in
+    slot_kept images name.x (service_slot name.x) target refl name.then_
+
+image_at_kept : (images : List ImageSpec) (table : Members) (target : Target) → image_target images table ≡ Ok target → IsTarget images target
+unfolding image_target
+image_at_kept images table target h =
+    let image = went (step_image images table) _ target h in
+    let at = went (needed (number_field (codes "at") table)) (λ at. Ok (targets.Image image.x at)) target image.then_ in
+    let same : targets.Image image.x at.x ≡ target = cc in
+    subst (IsTarget images) same (image_known images table image.x image.first)
+
+target_kept : (images : List ImageSpec) (table : Members) (target : Target) → target_of images table ≡ Ok target → IsTarget images target
+unfolding target_of
+target_kept images table target h = by (not (has_key (codes "service") table)) (has_key (codes "image") table || has_key (codes "at") table) h
+  where
+    by : (of_image both : Bool) → (if of_image then image_target images table else (if both then Err kinds.Shape else service_target table)) ≡ Ok target → IsTarget images target
+    by true both h = image_at_kept images table target h
+    by false true h = cc
+    by false false h = service_kept images table target h
+
+lists_read : (images : List ImageSpec) (table : Members) (target : Target) (step : Step) → IsTarget images target → with_lists table target ≡ Ok step → IsStep images step
+unfolding with_lists
+lists_read images table target step there h =
+    let args = went (listed arg_of (codes "args") 8 table) _ step h in
+    let buffers = went (listed buffer_of (codes "buffers") 16 table) _ step args.then_ in
+    let show = went (listed shown_of (codes "show") 16 table) _ step buffers.then_ in
+    let bound = went (bound_of table) (λ bound. Ok (Call (record { target = target; args = args.x; buffers = buffers.x; show = show.x; bound = bound }))) step show.then_ in
+    let made : CallPlain = record { target = target; args = args.x; buffers = buffers.x; show = show.x; bound = bound.x } in
+    let same : Call made ≡ step = cc in
+    let are_buffers = listed_kept buffer_of IsBuffer buffer_kept (codes "buffers") 16 table buffers.x buffers.first in
+    let are_shown = listed_kept shown_of IsShown shown_kept (codes "show") 16 table show.x show.first in
+    let range = bound_read table bound.x bound.first in
+    subst (IsStep images) same (record {
+      target = there;
+      few_args = listed_few arg_of (codes "args") 8 table args.x args.first;
+      few_buffers = are_buffers.1;
+      buffers = are_buffers.0;
+      few_shown = are_shown.1;
+      shown = are_shown.0;
+      some_steps = range.0;
+      few_steps = range.1;
+    })
+
+call_read : (images : List ImageSpec) (table : Members) (step : Step) → call_in images table ≡ Ok step → IsStep images step
+unfolding call_in
+call_read images table step h =
+    let keys = went (only_call_keys table) (λ _. target_of images table >>= with_lists table) step h in
+    let target = went (target_of images table) (with_lists table) step keys.then_ in
+    lists_read images table target.x step (target_kept images table target.x target.first) target.then_
+
+needed_some : {A : Type 0} (r : Result (Option A) ScriptKind) (x : A) → needed r ≡ Ok x → r ≡ Ok (Some x)
+needed_some (Ok (Some y)) x h = let same : y ≡ x = cc in rw same refl
+needed_some (Ok None) x h = cc
+needed_some (Err e) x h = cc
+
+len_read : (table : Members) (len : ℕ) → integer_field (codes "len") 1 4096 table ≡ Ok (Some len) → (1 ≤ len) × (len ≤ 4096)
+unfolding integer_field
+len_read table len h = integer_range 1 4096 (get_member (codes "len") table) (Some len) h
+
+peek_read : (images : List ImageSpec) (table : Members) (step : Step) → peek_in table ≡ Ok step → IsStep images step
+unfolding peek_in
+peek_read images table step h =
+    let keys = went (only_keys (codes "do" ∷ codes "at" ∷ codes "len" ∷ []) table) _ step h in
+    let at = went (needed (number_field (codes "at") table)) _ step keys.then_ in
+    let len = went (needed (integer_field (codes "len") 1 4096 table)) (λ len. Ok (Peek at.x len)) step at.then_ in
+    let same : Peek at.x len.x ≡ step = cc in
+    subst (IsStep images) same (len_read table len.x (needed_some (integer_field (codes "len") 1 4096 table) len.x len.first))
+
+vars_read : (images : List ImageSpec) (table : Members) (step : Step) → vars_in table ≡ Ok step → IsStep images step
+unfolding vars_in
+vars_read images table step h =
+    let keys = went (only_keys (codes "do" ∷ []) table) (λ _. Ok Vars) step h in
+    let same : Vars ≡ step = cc in
+    subst (IsStep images) same tt
+
+later_read : (word : List ℕ) (images : List ImageSpec) (table : Members) (step : Step) → later_step word images table ≡ Ok step → IsStep images step
+unfolding later_step
+later_read word images table step h =
+    by (bytes_eq word (codes "map")) (bytes_eq word (codes "call")) (bytes_eq word (codes "peek")) (bytes_eq word (codes "memmap")) (bytes_eq word (codes "vars")) h
+  where
+    by : (maps calls peeks lists vars : Bool)
+        → (if maps then map_in table else (if calls then call_in images table else (if peeks then peek_in table else (if lists then memmap_in table else (if vars then vars_in table else Err kinds.Value))))) ≡ Ok step
+        → IsStep images step
+    by true calls peeks lists vars h = map_read images table step h
+    by false true peeks lists vars h = call_read images table step h
+    by false false true lists vars h = peek_read images table step h
+    by false false false true vars h = memmap_read images table step h
+    by false false false false true h = vars_read images table step h
+    by false false false false false h = cc
+
 by_read : (word : List ℕ) (images : List ImageSpec) (table : Members) (step : Step) → step_by word images table ≡ Ok step → IsStep images step
 unfolding step_by
-by_read word images table step h = by (bytes_eq word (codes "load")) (bytes_eq word (codes "start")) (bytes_eq word (codes "memmap")) h
+by_read word images table step h =
+    by (bytes_eq word (codes "load")) (bytes_eq word (codes "unload")) (bytes_eq word (codes "start")) (bytes_eq word (codes "exit_boot")) (bytes_eq word (codes "check")) h
   where
-    by : (loads starts maps : Bool)
-        → (if loads then load_in images table else (if starts then start_in images table else (if maps then memmap_in table else Err kinds.Value))) ≡ Ok step → IsStep images step
-    by true starts maps h = load_read images table step h
-    by false true maps h = start_read images table step h
-    by false false true h = memmap_read images table step h
-    by false false false h = cc
+    by : (loads unloads starts exits checks : Bool)
+        → (if loads then load_in images table else (if unloads then unload_in images table else (if starts then start_in images table else (if exits then exit_boot_in images table else (if checks then check_in images table else later_step word images table))))) ≡ Ok step
+        → IsStep images step
+    by true unloads starts exits checks h = load_read images table step h
+    by false true starts exits checks h = unload_read images table step h
+    by false false true exits checks h = start_read images table step h
+    by false false false true checks h = exit_boot_read images table step h
+    by false false false false true h = check_read images table step h
+    by false false false false false h = later_read word images table step h
 
 step_read_at : (images : List ImageSpec) (content : Data) (step : Step) → step_at images content ≡ Ok step → IsStep images step
 unfolding step_at step_in
@@ -334,14 +583,6 @@ time_read : (table : Members) (time : List ℕ) → time_of table ≡ Ok time �
 unfolding time_of
 time_read table time h = let p = went (text_field (codes "time") table) time_or time h in time_kept p.x time p.then_
 
-few_are : {A : Type 0} (most : ℕ) (items kept : List A) → few most items ≡ Ok kept → (items ≡ kept) × (length kept ≤ most)
-few_are most items kept h =
-    let p = refused (nat_lt most (length items)) items kept kinds.Count h in
-    let test : nat_lt most (length items) ≡ false = p.0 in
-    let few : length items ≤ most = grind (arith, nat_tests, test) in
-    let same : items ≡ kept = p.1 in
-    (same, rw (← same) few)
-
 ticks_read : (table : Members) (ticks : List ℕ) → ticks_of table ≡ Ok ticks → (rises 0 ticks ≡ true) × (length ticks ≤ 1024)
 unfolding ticks_of
 ticks_read table ticks h =
@@ -378,19 +619,19 @@ record ReadsTop (top : Top) : Type 0 where
   some_steps : 1 ≤ items_len top.steps
   few_steps : items_len top.steps ≤ 4096
 
-abbrev with_lists : ℕ → ℕ → Settings → Items → Items → Result Top ScriptKind
-with_lists ram_base ram_pages settings images steps = Ok (record { ram_base = ram_base; ram_pages = ram_pages; settings = settings; images = images; steps = steps })
+abbrev with_tables : ℕ → ℕ → Settings → Items → Items → Result Top ScriptKind
+with_tables ram_base ram_pages settings images steps = Ok (record { ram_base = ram_base; ram_pages = ram_pages; settings = settings; images = images; steps = steps })
 
 top_read : (table : Members) (top : Top) → top_of table ≡ Ok top → ReadsTop top
 unfolding top_of
 top_read table top h =
     let listed : Result Items ScriptKind = tables_field (codes "image") table >>= counted 16 in
-    let keys = went (only_keys top_keys table) _ top h in
+    let keys = went (only_top_keys table) _ top h in
     let base = went (ram_base_of table) _ top keys.then_ in
     let pages = went (ram_pages_of table) _ top base.then_ in
     let settings = went (settings_of table) _ top pages.then_ in
     let images = went listed _ top settings.then_ in
-    let steps = went (steps_field table) (with_lists base.x pages.x settings.x images.x) top images.then_ in
+    let steps = went (steps_field table) (with_tables base.x pages.x settings.x images.x) top images.then_ in
     let all = went (tables_field (codes "image") table) (counted 16) images.x images.first in
     let few = few_kept 16 all.x images.x all.then_ in
     let count = steps_counted table steps.x steps.first in

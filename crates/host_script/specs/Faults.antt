@@ -15,6 +15,7 @@ kind_name kinds.Shape = codes "Shape"
 kind_name kinds.Value = codes "Value"
 kind_name kinds.Name = codes "Name"
 kind_name kinds.Count = codes "Count"
+kind_name kinds.Store = codes "Store"
 
 -- ---- one table: the first thing that is wrong is what is wrong
 

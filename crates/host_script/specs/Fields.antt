@@ -1,5 +1,5 @@
 -- Keys of a TOML table, judged one at a time.
-use Rattle.std.specs.Prelude.{◌+◌, ◌&&◌, ℕ, pos, negsuc, List, Bool, true, false, nat_le, nat_lt, Option, Some, None, Result, Ok, Err, option_copied, if◌then◌else◌}
+use Rattle.std.specs.Prelude.{◌+◌, ◌&&◌, ℕ, pos, negsuc, List, Bool, true, false, nat_le, nat_lt, Option, Some, None, Result, Ok, Err, option_copied, unwrap_or, if◌then◌else◌}
 use Rattle.std.specs.List.{list_any}
 use Rattle.std.specs.Str.{bytes_eq}
 use Rattle.std.specs.Borrow.{Bor}
@@ -24,6 +24,14 @@ is_among words key = list_any (λ word. bytes_eq word key) words
 -- every key is known
 unfoldable pub only_keys : List (List ℕ) → Members → Result (Unit {0}) ScriptKind
 only_keys words members = if keys_pass (is_among words) members then Ok tt else Err kinds.Key
+
+-- the key is there
+abbrev pub is_there : Option Data → Bool
+is_there None = false
+is_there (Some content) = true
+
+unfoldable pub has_key : List ℕ → Members → Bool
+has_key key members = is_there (get_member key members)
 
 -- ---- the value of a key, where the key is there
 
@@ -66,6 +74,13 @@ integer_in low high (Some _) = Err kinds.Shape
 
 unfoldable pub integer_field : List ℕ → ℕ → ℕ → Members → Result (Option ℕ) ScriptKind
 integer_field key low high members = integer_in low high (get_member key members)
+
+-- the same, and a usual number where the key isn't there
+abbrev pub or_usual : ℕ → Option ℕ → Result ℕ ScriptKind
+or_usual usual n = Ok (unwrap_or n usual)
+
+unfoldable pub integer_or : List ℕ → ℕ → ℕ → ℕ → Members → Result ℕ ScriptKind
+integer_or key low high usual members = integer_field key low high members >>= or_usual usual
 
 -- a list of tables, empty where the key isn't there
 abbrev pub are_tables : Items → Bool

@@ -6,3 +6,5 @@ pub mod Plain
 pub mod Script
 pub mod Seen
 pub mod Settings
+pub mod Steps
+pub mod Words

@@ -43,3 +43,7 @@ forms_of form before (item content items) = form_at form content >>= λ x. forms
 -- at most so many
 abbrev pub few : {A : Type 0} → ℕ → List A → Result (List A) ScriptKind
 few most items = if nat_lt most (length items) then Err kinds.Count else Ok items
+
+-- the texts of a key, read by a form, at most so many
+unfoldable pub listed : {A : Type 0} → (List ℕ → Option A) → List ℕ → ℕ → Members → Result (List A) ScriptKind
+listed form key most members = (texts_field key members >>= forms_of form []) >>= few most

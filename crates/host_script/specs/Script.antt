@@ -1,5 +1,5 @@
 -- The script that a document says, or the first thing that is wrong with it.
-use Rattle.std.specs.Prelude.{◌+◌, ◌*◌, ◌%◌, ◌^◌, ◌==◌, ◌&&◌, nat_le, ℕ, List, [], ◌∷◌, ◌++◌, length, codes, Bool, Option, Some, None, Result, Ok, Err, unwrap_or, if◌then◌else◌}
+use Rattle.std.specs.Prelude.{◌+◌, ◌*◌, ◌%◌, ◌^◌, ◌==◌, ◌&&◌, ◌||◌, nat_le, ℕ, List, [], ◌∷◌, ◌++◌, length, codes, Bool, Option, Some, None, Result, Ok, Err, not, unwrap_or, if◌then◌else◌}
 use Rattle.std.specs.List.{list_any}
 use Rattle.std.specs.Str.{bytes_eq, is_utf8}
 use Rattle.toml.specs.Data.{Data, Items, no_items, item, Members, as_table}
@@ -8,14 +8,20 @@ use Rattle.uh_base.specs.Names.{is_name}
 use Rattle.host_script.specs.Faults.{◌>>=◌, Place, placed}
 use Rattle.host_script.specs.Plain.{Plain}
 use Rattle.host_script.specs.Settings.{Settings, settings_of}
-use Rattle.host_script.specs.Fields.{only_keys, text_field, number_field, integer_field, tables_field, items_len, counted, needed}
+use Rattle.host_script.specs.Steps.{MapPlain, CallPlain}
+use Rattle.host_script.specs.Lists.{listed, or_value}
+use Rattle.host_script.specs.Words.{entry_of, arg_of, buffer_of, shown_of}
+use Rattle.record_text.specs.Services.{service_slot}
+use Rattle.host_script.specs.Fields.{only_keys, has_key, text_field, number_field, integer_field, integer_or, tables_field, items_len, counted, needed}
 use Rattle.host_script.specs.declared.fault.ScriptKind.{ScriptKind}
 use Rattle.host_script.specs.declared.fault.ScriptKind.TheVariants as kinds
 use Rattle.host_script.specs.declared.script.Origin.{Origin}
 use Rattle.host_script.specs.declared.script.Origin.TheVariants.{File, Text}
 use Rattle.host_script.specs.declared.script.ImageSpec.{ImageSpec}
 use Rattle.host_script.specs.declared.script.Step.{Step}
-use Rattle.host_script.specs.declared.script.Step.TheVariants.{Load, Start, MemMap}
+use Rattle.host_script.specs.declared.script.Step.TheVariants.{Load, Unload, Start, ExitBoot, Check, Map, Call, Peek, MemMap, Vars}
+use Rattle.host_script.specs.declared.script.Target.{Target}
+use Rattle.host_script.specs.declared.script.Target.TheVariants as targets
 
 -- an image has the name
 abbrev pub has_image : List ImageSpec → List ℕ → Bool
@@ -64,14 +70,16 @@ pages_to_judge (Err kind) = 0
 unfoldable pub ram_base_of : Members → Result ℕ ScriptKind
 ram_base_of top = number_field (codes "ram_base") top >>= base_or (pages_to_judge (ram_pages_of top))
 
-abbrev pub top_keys : List (List ℕ)
-top_keys =
-    codes "ram_base" ∷ codes "ram_pages" ∷ codes "time" ∷ codes "ticks" ∷ codes "os_virtual" ∷ codes "trace" ∷ codes "store" ∷ codes "image"
-    ∷ codes "step" ∷ []
+unfoldable pub only_top_keys : Members → Result (Unit {0}) ScriptKind
+only_top_keys top =
+    only_keys (
+    codes "ram_base" ∷ codes "ram_pages" ∷ codes "time" ∷ codes "ticks" ∷ codes "os_virtual" ∷ codes "trace" ∷ codes "store"
+    ∷ codes "image" ∷ codes "step" ∷ []
+    ) top
 
 unfoldable pub top_of : Members → Result Top ScriptKind
 top_of top = do
-  _ ← only_keys top_keys top
+  _ ← only_top_keys top
   ram_base ← ram_base_of top
   ram_pages ← ram_pages_of top
   settings ← settings_of top
@@ -147,16 +155,113 @@ start_in images step = do
   bound ← bound_of step
   Ok (Start image bound)
 
+unfoldable pub unload_in : List ImageSpec → Members → Result Step ScriptKind
+unload_in images step = do
+  _ ← only_keys (codes "do" ∷ codes "image" ∷ []) step
+  image ← step_image images step
+  Ok (Unload image)
+
+unfoldable pub exit_boot_in : List ImageSpec → Members → Result Step ScriptKind
+exit_boot_in images step = do
+  _ ← only_keys (codes "do" ∷ codes "image" ∷ codes "key" ∷ []) step
+  image ← step_image images step
+  key ← number_field (codes "key") step
+  Ok (ExitBoot image key)
+
+unfoldable pub check_in : List ImageSpec → Members → Result Step ScriptKind
+check_in images step = do
+  _ ← only_keys (codes "do" ∷ codes "image" ∷ codes "file" ∷ codes "text" ∷ []) step
+  image ← step_image images step
+  origin ← origin_of step
+  Ok (Check image origin)
+
+-- a key that has to be there
+unfoldable pub asked : List ℕ → Members → Result (Unit {0}) ScriptKind
+asked key step = if has_key key step then Ok tt else Err kinds.Missing
+
+-- the most that a number of a map may be
+abbrev pub map_limit : ℕ
+map_limit = 4294967295
+
+unfoldable pub map_in : Members → Result Step ScriptKind
+map_in step = do
+  _ ← only_keys (codes "do" ∷ codes "entries" ∷ codes "size" ∷ codes "version" ∷ []) step
+  _ ← asked (codes "entries") step
+  entries ← listed entry_of (codes "entries") 1024 step
+  size ← integer_or (codes "size") 0 map_limit 40 step
+  version ← integer_or (codes "version") 0 map_limit 1 step
+  Ok (Map (record { entries = entries; size = size; version = version }))
+
+-- an image and an offset of it, or a service
+abbrev pub slot_or_value : Option ℕ → Result Target ScriptKind
+slot_or_value None = Err kinds.Value
+slot_or_value (Some slot) = Ok (targets.Service slot)
+
+unfoldable pub service_target : Members → Result Target ScriptKind
+service_target step = needed (text_field (codes "service") step) >>= λ name. slot_or_value (service_slot name)
+
+unfoldable pub image_target : List ImageSpec → Members → Result Target ScriptKind
+image_target images step = do
+  image ← step_image images step
+  at ← needed (number_field (codes "at") step)
+  Ok (targets.Image image at)
+
+unfoldable pub target_of : List ImageSpec → Members → Result Target ScriptKind
+target_of images step =
+    if not (has_key (codes "service") step) then image_target images step
+    else (if has_key (codes "image") step || has_key (codes "at") step then Err kinds.Shape else service_target step)
+
+unfoldable pub only_call_keys : Members → Result (Unit {0}) ScriptKind
+only_call_keys step =
+    only_keys (codes "do" ∷ codes "image" ∷ codes "at" ∷ codes "service" ∷ codes "args" ∷ codes "buffers" ∷ codes "show" ∷ codes "bound" ∷ []) step
+
+-- the target and the lists, behind which the bound is judged
+unfoldable pub with_lists : Members → Target → Result Step ScriptKind
+with_lists step target = do
+  args ← listed arg_of (codes "args") 8 step
+  buffers ← listed buffer_of (codes "buffers") 16 step
+  show ← listed shown_of (codes "show") 16 step
+  bound ← bound_of step
+  Ok (Call (record { target = target; args = args; buffers = buffers; show = show; bound = bound }))
+
+unfoldable pub call_in : List ImageSpec → Members → Result Step ScriptKind
+call_in images step = do
+  _ ← only_call_keys step
+  target ← target_of images step
+  with_lists step target
+
+unfoldable pub peek_in : Members → Result Step ScriptKind
+peek_in step = do
+  _ ← only_keys (codes "do" ∷ codes "at" ∷ codes "len" ∷ []) step
+  at ← needed (number_field (codes "at") step)
+  len ← needed (integer_field (codes "len") 1 4096 step)
+  Ok (Peek at len)
+
+unfoldable pub vars_in : Members → Result Step ScriptKind
+vars_in step = do
+  _ ← only_keys (codes "do" ∷ []) step
+  Ok Vars
+
 unfoldable pub memmap_in : Members → Result Step ScriptKind
 memmap_in step = do
   _ ← only_keys (codes "do" ∷ []) step
   Ok MemMap
 
+unfoldable pub later_step : List ℕ → List ImageSpec → Members → Result Step ScriptKind
+later_step word images step =
+    if bytes_eq word (codes "map") then map_in step
+    else (if bytes_eq word (codes "call") then call_in images step
+    else (if bytes_eq word (codes "peek") then peek_in step
+    else (if bytes_eq word (codes "memmap") then memmap_in step
+    else (if bytes_eq word (codes "vars") then vars_in step else Err kinds.Value))))
+
 unfoldable pub step_by : List ℕ → List ImageSpec → Members → Result Step ScriptKind
 step_by word images step =
     if bytes_eq word (codes "load") then load_in images step
+    else (if bytes_eq word (codes "unload") then unload_in images step
     else (if bytes_eq word (codes "start") then start_in images step
-    else (if bytes_eq word (codes "memmap") then memmap_in step else Err kinds.Value))
+    else (if bytes_eq word (codes "exit_boot") then exit_boot_in images step
+    else (if bytes_eq word (codes "check") then check_in images step else later_step word images step))))
 
 unfoldable pub step_in : List ImageSpec → Members → Result Step ScriptKind
 step_in images step = needed (text_field (codes "do") step) >>= λ word. step_by word images step

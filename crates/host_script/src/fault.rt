@@ -21,6 +21,8 @@ pub enum ScriptKind {
     Name,
     /// More items than a list may have.
     Count,
+    /// The store is no file of variables. A script that is read never has this fault.
+    Store,
 }
 
 impl ScriptKind {
@@ -39,6 +41,7 @@ impl ScriptKind {
             ScriptKind::Value => "Value",
             ScriptKind::Name => "Name",
             ScriptKind::Count => "Count",
+            ScriptKind::Store => "Store",
         }
     }
 }

@@ -2,7 +2,7 @@
 ghost use Rattle.std.specs.Prelude.{◌≡◌, ◌≤◌, ◌<◌, ◌^◌, map, option_map, length, IfOk};
 ghost use Rattle.toml.specs.Data.{get_member};
 ghost use Rattle.toml.specs.View.{table_view, view, items_view};
-ghost use Rattle.host_script.specs.Fields.{is_among, only_keys, text_field, flag_field, number_field, integer_field, tables_field, counted, needed, seen, seen_one, seen_items, are_tables};
+ghost use Rattle.host_script.specs.Fields.{is_among, only_keys, text_field, flag_field, number_field, integer_field, tables_field, counted, needed, seen, seen_one, seen_items, are_tables, has_key, integer_or};
 
 use crate::fault::ScriptKind;
 use toml::{Table, Value};
@@ -36,6 +36,17 @@ pub(crate) fn find<'a>(table: &'a Table, key: &str) -> Option<&'a Value>
     ensures { option_map (λ v. view v.now) result ≡ get_member key.now (table_view table.now) }
 {
     table.get(key)
+}
+
+/// Whether a key is there.
+#[tactic(auto, unfolding(crate::specs::Fields::has_key))]
+pub(crate) fn has_key(table: &Table, key: &str) -> bool
+    ensures { result ≡ has_key key.now (table_view table.now) }
+{
+    match find(table, key) {
+        None => false,
+        Some(_) => true,
+    }
 }
 
 /// The text at a key, if the key is there.
@@ -75,6 +86,16 @@ pub(crate) fn number_field(table: &Table, key: &str) -> Result<Option<u64>, Scri
     }
 }
 
+/// The number of the number text at a key that has to be there.
+pub(crate) fn needed_number(table: &Table, key: &str) -> Result<u64, ScriptKind>
+    ensures { result ≡ needed (number_field key.now (table_view table.now)) }
+{
+    match number_field(table, key)? {
+        Some(n) => Ok(n),
+        None => Err(ScriptKind::Missing),
+    }
+}
+
 /// True or false at a key, if the key is there.
 #[tactic(auto, unfolding(crate::specs::Fields::flag_field))]
 pub(crate) fn flag_field(table: &Table, key: &str) -> Result<Option<bool>, ScriptKind>
@@ -107,6 +128,23 @@ pub(crate) fn integer_field(
             }
         }
         Some(_) => Err(ScriptKind::Shape),
+    }
+}
+
+/// The integer from `low` to `high` at a key, or the usual one if the key isn't there.
+#[tactic(auto, unfolding(crate::specs::Fields::integer_or))]
+pub(crate) fn integer_or(
+    table: &Table,
+    key: &str,
+    low: u32,
+    high: u32,
+    usual: u32,
+) -> Result<u32, ScriptKind>
+    ensures { result ≡ integer_or key.now low high usual (table_view table.now) }
+{
+    match integer_field(table, key, low, high)? {
+        Some(n) => Ok(n),
+        None => Ok(usual),
     }
 }
 

@@ -52,7 +52,7 @@ fn short_text(alloc: Global, text: &str) -> Result<Origin, Fault>
 
 /// Where the bytes of an image come from: a file or a text, one of the two.
 #[tactic(auto, unfolding(crate::specs::Script::origin_of))]
-fn origin_of(alloc: Global, image: &Table) -> Result<Origin, Fault>
+pub(crate) fn origin_of(alloc: Global, image: &Table) -> Result<Origin, Fault>
     ensures { Gives (λ origin. origin) result (origin_of (table_view image.now)) }
 {
     let file = fields::text_field(image, "file")?;

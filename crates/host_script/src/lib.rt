@@ -9,7 +9,10 @@ mod reading;
 mod script;
 mod settings;
 mod steps;
+mod words;
 
 pub use fault::{ScriptFault, ScriptKind};
 pub use reading::{read_script, scripts_keep_forms};
-pub use script::{ImageSpec, Origin, Script, Step};
+pub use script::{
+    Arg, Buffer, CallStep, ImageSpec, MapEntry, MapStep, Origin, Script, Shown, Step, Target,
+};

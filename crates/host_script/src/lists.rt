@@ -4,7 +4,7 @@ ghost use Rattle.toml.specs.View.{view, table_view, items_view};
 ghost use Rattle.uh_base.specs.Numbers.{number_of};
 ghost use Rattle.host_script.specs.Faults.{Gives};
 ghost use Rattle.host_script.specs.Fields.{seen_items};
-ghost use Rattle.host_script.specs.Lists.{are_texts, texts_field, form_at, forms_of, few};
+ghost use Rattle.host_script.specs.Lists.{are_texts, texts_field, form_at, forms_of, few, listed};
 
 use crate::fault::{Fault, ScriptKind};
 use crate::fields::find;
@@ -92,4 +92,18 @@ pub(crate) fn few<T: Drop>(items: Vec<T>, most: usize) -> Result<Vec<T>, Fault>
         return Err(Fault::Kind(ScriptKind::Count));
     }
     Ok(items)
+}
+
+/// The texts at a key, each read by the form, at most so many; none if the key isn't there.
+#[tactic(auto, unfolding(crate::specs::Lists::listed))]
+pub(crate) fn listed<T: Form>(
+    alloc: Global,
+    table: &Table,
+    key: &str,
+    most: usize,
+) -> Result<Vec<T>, Fault>
+    ensures { Gives (λ read. read.items) result (listed T.form key.now most (table_view table.now)) }
+{
+    let read = forms_of(alloc, texts_field(table, key)?)?;
+    few(read, most)
 }

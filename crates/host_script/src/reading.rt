@@ -3,7 +3,7 @@ ghost use Rattle.std.specs.Prelude.{◌≡◌, ◌≤◌, length, IfOk};
 ghost use Rattle.toml.specs.View.{table_view, items_view};
 ghost use Rattle.host_script.specs.Faults.{Gives, Reads};
 ghost use Rattle.host_script.specs.Fields.{seen_items};
-ghost use Rattle.host_script.specs.Script.{not_empty, steps_field, is_ram_base, ram_pages_of, pages_to_judge, ram_base_of, top_of, script_of, script_in};
+ghost use Rattle.host_script.specs.Script.{not_empty, steps_field, is_ram_base, ram_pages_of, pages_to_judge, ram_base_of, only_top_keys, top_of, script_of, script_in};
 ghost use Rattle.host_script.specs.Forms.{ScriptsKeepForms};
 ghost use Rattle.host_script.specs.Seen.{top_seen};
 
@@ -95,10 +95,10 @@ fn ram_base_of(top: &Table) -> Result<u64, ScriptKind>
     }
 }
 
-#[tactic(auto, unfolding(crate::specs::Script::top_of))]
-fn top_of(alloc: Global, top: &Table) -> Result<Top<'_>, Fault>
-    ensures seen { Gives top_seen result (top_of (table_view top.now)) }
-    ensures few { IfOk result (λ top. length top.steps.now ≤ 4096) }
+/// Refuses a document with a key that isn't known.
+#[tactic(auto, unfolding(crate::specs::Script::only_top_keys))]
+fn only_top_keys(top: &Table) -> Result<(), ScriptKind>
+    ensures { result ≡ only_top_keys (table_view top.now) }
 {
     fields::only_keys(
         top,
@@ -113,7 +113,15 @@ fn top_of(alloc: Global, top: &Table) -> Result<Top<'_>, Fault>
             "image",
             "step",
         ],
-    )?;
+    )
+}
+
+#[tactic(auto, unfolding(crate::specs::Script::top_of))]
+fn top_of(alloc: Global, top: &Table) -> Result<Top<'_>, Fault>
+    ensures seen { Gives top_seen result (top_of (table_view top.now)) }
+    ensures few { IfOk result (λ top. length top.steps.now ≤ 4096) }
+{
+    only_top_keys(top)?;
     let ram_base = ram_base_of(top)?;
     let ram_pages = ram_pages_of(top)?;
     let settings = settings_of(alloc, top)?;
