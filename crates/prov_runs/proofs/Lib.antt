@@ -6,3 +6,5 @@ pub mod NumberLemmas
 pub mod LoadLemmas
 pub mod ReadLemmas
 pub mod StoreLemmas
+pub mod FitLemmas
+pub mod FetchLemmas

@@ -4,3 +4,4 @@ pub mod Memory
 pub mod States
 pub mod LoadLaws
 pub mod StoreLaws
+pub mod FetchLaws

@@ -2,8 +2,10 @@
 //! mapped elsewhere.
 #![tactic(auto)]
 
+mod fetches;
 mod loads;
 mod stores;
 
+pub use fetches::{decoded_fits, fetches_alike};
 pub use loads::{joins_hold, loads_hold, reads_hold};
 pub use stores::{regions_stay, stack_stores_keep, stores_keep};
