@@ -8,3 +8,5 @@ pub mod ReadLemmas
 pub mod StoreLemmas
 pub mod FitLemmas
 pub mod FetchLemmas
+pub mod NodeLemmas
+pub mod MemoryLemmas

@@ -5,3 +5,5 @@ pub mod States
 pub mod LoadLaws
 pub mod StoreLaws
 pub mod FetchLaws
+pub mod Steps
+pub mod NodeLaws

@@ -1,5 +1,5 @@
 -- Two runs that stand at one place of the image.
-use Rattle.std.specs.Prelude.{ℕ, ◌≡◌, ◌<◌, ◌^◌, List, slice_index, length}
+use Rattle.std.specs.Prelude.{ℕ, ◌≡◌, ◌<◌, ◌^◌, ◌==◌, if◌then◌else◌, List, slice_index, length}
 use Rattle.uh_base.specs.Bytes.{plus}
 use Rattle.rv_step.specs.Exec.{State}
 use Rattle.rv_step.specs.Numbers.{AreNumbers}
@@ -27,9 +27,13 @@ pub record Related (g : Regions) (laid : Layout) (done : List ℕ) (image : List
 abbrev pub RegistersHold : Regions → (kinds : ℕ → Kind) → (x y : List ℕ) → Type 0
 RegistersHold g kinds x y = (r : ℕ) → Holds g (kinds r) (slice_index x r) (slice_index y r)
 
--- Both runs are at one offset of the image, and what is known there of registers and the stack holds.
-pub record StandAt (g : Regions) (at : ℕ) (kinds : ℕ → Kind) (parts : List StackPart) (s t : State) : Type 0 where
-  pub old_pc : s.pc ≡ plus (g.old 0) at
-  pub new_pc : t.pc ≡ plus (g.new 0) at
+-- the kinds with that of one register; register 0 isn't written
+abbrev pub with_kind : (ℕ → Kind) → (rd : ℕ) → Kind → ℕ → Kind
+with_kind kinds rd kind r = if rd == 0 then kinds r else (if r == rd then kind else kinds r)
+
+-- Both runs are at one offset of a region, and what is known there of registers and the stack holds.
+pub record StandAt (g : Regions) (r at : ℕ) (kinds : ℕ → Kind) (parts : List StackPart) (s t : State) : Type 0 where
+  pub old_pc : s.pc ≡ plus (g.old r) at
+  pub new_pc : t.pc ≡ plus (g.new r) at
   pub registers : RegistersHold g kinds s.x t.x
   pub stack : PartsHold g parts s.bytes t.bytes

@@ -4,8 +4,10 @@
 
 mod fetches;
 mod loads;
+mod nodes;
 mod stores;
 
 pub use fetches::{decoded_fits, fetches_alike};
 pub use loads::{joins_hold, loads_hold, reads_hold};
+pub use nodes::{edges_serve, jump_node, memory_node, register_node};
 pub use stores::{regions_stay, stack_stores_keep, stores_keep};
