@@ -10,7 +10,7 @@ use Rattle.record_text.specs.declared.line.Line.TheVariants as lines
 use Rattle.host_script.specs.Plain.{Plain}
 use Rattle.host_script.specs.declared.script.ImageSpec.{ImageSpec}
 use Rattle.host_script.specs.declared.script.Step.{Step}
-use Rattle.host_script.specs.declared.script.Step.TheVariants.{Load, Start, MemMap}
+use Rattle.host_script.specs.declared.script.Step.TheVariants.{Load, Unload, Start, ExitBoot, Check, Map, Call, Peek, MemMap, Vars}
 use Rattle.page_alloc.specs.Pages.{PageList}
 use Rattle.memory_map.specs.declared.descriptor.Descriptor.{Descriptor}
 use Rattle.memory_map.specs.Map.{map_of}
@@ -22,7 +22,7 @@ use Rattle.firmware_core.specs.declared.job.Job.TheVariants as jobs
 use Rattle.firmware_core.specs.Opening.{opened}
 use Rattle.firmware_core.specs.Turns.{State}
 use Rattle.firmware_core.specs.Jobs.{Begun, begun, Job, job_of}
-use Rattle.firmware_core.specs.Loads.{LoadDone, loaded}
+use Rattle.firmware_core.specs.Loads.{LoadDone, loaded, UnloadDone, unloaded}
 use Rattle.host_engine.specs.Inputs.{Inputs}
 use Rattle.host_engine.specs.declared.course.Course.{Course}
 use Rattle.host_engine.specs.declared.course.Course.TheVariants.{GoesOn, Resets, Halts}
@@ -97,6 +97,19 @@ handle_at handles place = slice_index_or handles place 0
 unfoldable pub start_made : List ℕ → ℕ → ℕ → Running → Stepped
 start_made name place bound r = start_comes_to name r (begun r.machine (jobs.Start (handle_at r.handles place) bound))
 
+-- ---- unload
+
+abbrev pub unload_comes_to : List ℕ → List ℕ → UnloadDone → Stepped
+unload_comes_to name handles done = record {
+  lines = lines.Unload name done.status ∷ [];
+  course = GoesOn;
+  running = record { machine = done.state; handles = handles };
+}
+
+-- the unload of an image by its name and its place
+unfoldable pub unload_made : List ℕ → ℕ → Running → Stepped
+unload_made name place r = unload_comes_to name r.handles (unloaded r.machine (handle_at r.handles place))
+
 -- ---- memmap
 
 abbrev pub row_of : Descriptor → Line
@@ -111,10 +124,21 @@ map_made r = record { lines = map_lines r.machine.firmware.runtime.pages; course
 
 -- ---- the run
 
+-- A step that isn't built makes nothing; a script that has one is refused before it runs (`first_unbuilt`).
+abbrev pub nothing_made : Running → Stepped
+nothing_made r = record { lines = []; course = GoesOn; running = r }
+
 abbrev pub step_made : Plain → Inputs → Step → Running → Stepped
 step_made script inputs (Load name) r = load_made name (place_of script.image name) (file_at inputs.images (place_of script.image name)) r
 step_made script inputs (Start name bound) r = start_made name (place_of script.image name) bound r
+step_made script inputs (Unload name) r = unload_made name (place_of script.image name) r
 step_made script inputs MemMap r = map_made r
+step_made script inputs (ExitBoot name key) r = nothing_made r
+step_made script inputs (Check name origin) r = nothing_made r
+step_made script inputs (Map map) r = nothing_made r
+step_made script inputs (Call call) r = nothing_made r
+step_made script inputs (Peek at len) r = nothing_made r
+step_made script inputs Vars r = nothing_made r
 
 -- the lines of a run, and whether its last line is a halt
 pub record Run : Type 0 where

@@ -1,9 +1,11 @@
 -- What a script may ask for and the program doesn't carry out yet: such a script is refused, before any further file is read.
-use Rattle.std.specs.Prelude.{ℕ, ◌||◌, List, Bool, true, false, Option, Some, None, Result, Ok, Err, if◌then◌else◌}
+use Rattle.std.specs.Prelude.{ℕ, ◌+◌, ◌||◌, List, [], ◌∷◌, Bool, true, false, Option, Some, None, Result, Ok, Err, if◌then◌else◌}
 use Rattle.host_script.specs.Faults.{Place}
 use Rattle.host_script.specs.Plain.{Plain}
 use Rattle.host_script.specs.Script.{script_in}
 use Rattle.host_script.specs.declared.fault.ScriptKind.TheVariants as kinds
+use Rattle.host_script.specs.declared.script.Step.{Step}
+use Rattle.host_script.specs.declared.script.Step.TheVariants as steps
 
 abbrev pub is_given : {A : Type 0} → Option A → Bool
 is_given None = false
@@ -13,9 +15,27 @@ is_given (Some x) = true
 unfoldable pub asks_unbuilt : Plain → Bool
 asks_unbuilt script = is_given script.os_virtual || is_given script.store
 
+-- Boot services don't end, no virtual address map is made, no driver is checked, and no bytes and no variables are printed yet.
+abbrev pub is_built : Step → Bool
+is_built (steps.Load image) = true
+is_built (steps.Unload image) = true
+is_built (steps.Start image bound) = true
+is_built steps.MemMap = true
+is_built (steps.ExitBoot image key) = false
+is_built (steps.Check image origin) = false
+is_built (steps.Map call) = false
+is_built (steps.Call call) = false
+is_built (steps.Peek at len) = false
+is_built steps.Vars = false
+
+-- the first step that isn't built, of steps that are numbered from one number on
+abbrev pub unbuilt_step : ℕ → List Step → Option Place
+unbuilt_step number [] = None
+unbuilt_step number (step ∷ steps) = if is_built step then unbuilt_step (number + 1) steps else Some (number, kinds.Value)
+
 -- where a script asks for what isn't built
 unfoldable pub first_unbuilt : Plain → Option Place
-first_unbuilt script = if asks_unbuilt script then Some (0, kinds.Value) else None
+first_unbuilt script = if asks_unbuilt script then Some (0, kinds.Value) else unbuilt_step 1 script.step
 
 abbrev pub without_unbuilt : Plain → Option Place → Result Plain Place
 without_unbuilt script None = Ok script

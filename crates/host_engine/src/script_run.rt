@@ -8,13 +8,14 @@ ghost use Rattle.host_script.specs.Script.{is_ram_base};
 ghost use Rattle.host_script.specs.Forms.{IsScript, IsStep};
 ghost use Rattle.host_engine.specs.Jobs.{line_bytes, bytes_of, Puts};
 ghost use Rattle.time_service.specs.Texts.{clock_of};
-ghost use Rattle.host_engine.specs.ScriptRuns.{place_of, file_at, with_handle, handle_at, load_made, last_line, course_of, job_over, start_made, row_of, map_lines, clock_set, step_made, run_of, at_opening, Made, RunGives};
+ghost use Rattle.host_engine.specs.declared.course.Course.TheVariants.{GoesOn};
+ghost use Rattle.host_engine.specs.ScriptRuns.{place_of, file_at, with_handle, handle_at, load_made, last_line, course_of, job_over, start_made, unload_made, row_of, map_lines, clock_set, step_made, run_of, at_opening, Made, RunGives};
 
 use crate::code::ImageFile;
 use crate::course::Course;
 use crate::inputs::Inputs;
 use crate::job::{Stop, put_line, run_job, say};
-use firmware_core::{Halt, Job, JobEnd, Machine, Setup, begin, load};
+use firmware_core::{Halt, Job, JobEnd, Machine, Setup, begin, load, unload};
 use host_script::{ImageSpec, Script, Step};
 use memory_map::{Descriptor, MapCursor};
 use page_alloc::PageMap;
@@ -117,6 +118,14 @@ fn put_start<O: Sink>(
         },
         out,
     )
+}
+
+/// Puts the line of an unload.
+fn put_unload<O: Sink>(alloc: Global, name: &Text, status: u64, out: &mut O) -> Result<(), Stop>
+    ensures { Puts result (line_bytes (lines.Unload name.now status)) (O.written out.old) (O.faults out.old) (O.written out.new) (O.faults out.new) }
+{
+    let name = copy_of(alloc, name)?;
+    put_line(alloc, &Line::Unload { name, h0: status }, out)
 }
 
 impl Running {
@@ -256,6 +265,31 @@ fn start<O: Sink>(
     }
 }
 
+/// Unloads the image at a place of the script and puts the line of the step.
+#[tactic(auto, unfolding(crate::specs::ScriptRuns::unload_made))]
+fn unload_image<O: Sink>(
+    alloc: Global,
+    name: &Text,
+    place: usize,
+    running: &mut Running,
+    out: &mut O,
+) -> Result<Course, Stop>
+    requires known { place < length running.old.handles }
+    ensures made { IfOk result (λ course. Made (unload_made name.now place running.old) course running.new) }
+    ensures puts { Puts result (bytes_of (unload_made name.now place running.old).lines) (O.written out.old) (O.faults out.old) (O.written out.new) (O.faults out.new) }
+    ensures many { length running.new.handles ≡ length running.old.handles }
+{
+    let handle = running.handle_at(place);
+    let status = match unload(&mut running.machine, handle) {
+        Ok(status) => status,
+        Err(_) => return Err(Stop::Memory),
+    };
+    match put_unload(alloc, name, status.0, out) {
+        Ok(()) => Ok(Course::GoesOn),
+        Err(stop) => Err(stop),
+    }
+}
+
 /// The line of a descriptor.
 fn row_of(descriptor: Descriptor) -> Line
     ensures { result ≡ row_of descriptor }
@@ -297,6 +331,15 @@ fn put_map<O: Sink>(alloc: Global, pages: &PageMap, out: &mut O) -> Result<(), S
     put_rows(alloc, &mut rows, out)
 }
 
+/// A step that isn't built makes nothing.
+fn make_nothing<O: Sink>(out: &mut O) -> Result<Course, Stop>
+    ensures course { IfOk result (λ course. course ≡ GoesOn) }
+    ensures puts { Puts result [] (O.written out.old) (O.faults out.old) (O.written out.new) (O.faults out.new) }
+{
+    let _ = out;
+    Ok(Course::GoesOn)
+}
+
 /// Makes a step and puts its lines.
 fn make_step<O: Sink>(
     alloc: Global,
@@ -323,6 +366,16 @@ fn make_step<O: Sink>(
             let place = place_of(script.image.as_slice(), image.as_str());
             start(alloc, image, place, *bound, running, out)
         }
+        Step::Unload { image } => {
+            let place = place_of(script.image.as_slice(), image.as_str());
+            unload_image(alloc, image, place, running, out)
+        }
+        Step::ExitBoot { .. } => make_nothing(out),
+        Step::Check { .. } => make_nothing(out),
+        Step::Map(_) => make_nothing(out),
+        Step::Call(_) => make_nothing(out),
+        Step::Peek { .. } => make_nothing(out),
+        Step::Vars => make_nothing(out),
         Step::MemMap => match put_map(alloc, running.machine.pages(), out) {
             Ok(()) => Ok(Course::GoesOn),
             Err(stop) => Err(stop),

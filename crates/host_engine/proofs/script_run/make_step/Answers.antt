@@ -19,3 +19,9 @@ start-requires g c = record {
   known = place_below c.as_slice-in-Start.result.now c.args.script.now.image c.as_str-in-Start.result.now c.place_of-place-in-Start.result _ (rw c.as_str-in-Start.ensures (rw c.in-Start.is at c.requires.known).0) c.place_of-place-in-Start.ensures
       (c.as_slice-in-Start.ensures.value ∙ ap (λ (s : Plain). s.image) c.script.view_is) c.requires.handles;
 }
+
+pub unload_image-requires : goal.unload_image-requires
+unload_image-requires g c = record {
+  known = place_below c.as_slice-in-Unload.result.now c.args.script.now.image c.as_str-in-Unload.result.now c.place_of-place-in-Unload.result _ (rw c.as_str-in-Unload.ensures (rw c.in-Unload.is at c.requires.known)) c.place_of-place-in-Unload.ensures
+      (c.as_slice-in-Unload.ensures.value ∙ ap (λ (s : Plain). s.image) c.script.view_is) c.requires.handles;
+}
