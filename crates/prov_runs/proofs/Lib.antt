@@ -10,3 +10,4 @@ pub mod FitLemmas
 pub mod FetchLemmas
 pub mod NodeLemmas
 pub mod MemoryLemmas
+pub mod OneLemmas

@@ -7,3 +7,4 @@ pub mod StoreLaws
 pub mod FetchLaws
 pub mod Steps
 pub mod NodeLaws
+pub mod OneNode

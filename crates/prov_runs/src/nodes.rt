@@ -2,6 +2,7 @@
 #![tactic(auto)]
 
 ghost use Rattle.prov_runs.specs.NodeLaws.{EdgesServe, ForksAtNode, GoesAtNode, JumpsAtNode, LoadsAtNode, SetsAtNode, StoresAtNode};
+ghost use Rattle.prov_runs.specs.OneNode.{OneNode};
 
 use crate::fetches::fetches_alike;
 use crate::loads::{loads_hold, reads_hold};
@@ -54,4 +55,15 @@ pub fn edges_serve()
     ensures { EdgesServe }
 {
     fits_is_sound();
+}
+
+/// Where two runs stand at one node, and what a certificate's rules say of it holds, neither traps: both step to one node
+/// that NEXT names, or out of the image by one way, and what is known there holds.
+pub fn one_node()
+    ensures { OneNode }
+{
+    register_node();
+    jump_node();
+    memory_node();
+    edges_serve();
 }
