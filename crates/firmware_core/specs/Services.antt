@@ -120,7 +120,7 @@ at_protocols slot f =
 
 unfoldable pub at_runtime : ℕ → Parts → Concluded
 at_runtime slot f =
-    let done = serve_runtime slot f.hart.x (see f.runtime.view) f.runtime.memory f.variables f.clock f.count f.time false in
+    let done = serve_runtime slot f.hart.x (see f.runtime.view) f.runtime.memory f.variables f.clock f.count f.time f.runtime.gone in
     record { conclusion = served done.answer; firmware = record (with_memory f done.memory) { variables = done.variables; clock = done.clock; count = done.count } }
 
 -- ---- the reset

@@ -1,13 +1,14 @@
 -- The service of each slot.
-use Rattle.std.specs.Prelude.{ℕ, ◌==◌, is_some, Option, Some, None, if◌then◌else◌}
+use Rattle.std.specs.Prelude.{ℕ, ◌==◌, ◌&&◌, ◌||◌, nat_lt, Bool, is_some, Option, Some, None, if◌then◌else◌}
 use Rattle.uh_base.specs.Statuses.{success, unsupported}
+use Rattle.record_text.specs.declared.cause.Cause.TheVariants as causes
 use Rattle.protocol_services.specs.Services.{is_protocol_slot}
 use Rattle.runtime_services.specs.Slots.{service_of as runtime_service_of}
 use Rattle.firmware_core.specs.declared.service.Service.{Service}
 use Rattle.firmware_core.specs.declared.service.Service.TheVariants as services
 use Rattle.firmware_core.specs.declared.event_service.EventService.{EventService}
 use Rattle.firmware_core.specs.declared.image_service.ImageService.{ImageService}
-use Rattle.firmware_core.specs.declared.conclusion.Conclusion.TheVariants.{Answers}
+use Rattle.firmware_core.specs.declared.conclusion.Conclusion.TheVariants.{Answers, Halts}
 use Rattle.firmware_core.specs.Parts.{Parts}
 use Rattle.firmware_core.specs.Services.{Concluded, at_allocate_pages, at_free_pages, at_get_memory_map, at_allocate_pool, at_free_pool, at_calculate_crc32, at_copy_mem, at_set_mem, at_output_string, at_test_string, at_set_mode, at_protocols, at_runtime, at_reset, at_return}
 use Rattle.firmware_core.specs.EventSlots.{event_service_of, serve_event}
@@ -62,9 +63,19 @@ abbrev pub serve_event_or : ℕ → Parts → Option EventService → Concluded
 serve_event_or slot f None = serve_image_or slot f (image_service_of slot)
 serve_event_or slot f (Some service) = serve_event service f
 
--- the service of a slot
-unfoldable pub serve_slot : ℕ → Parts → Concluded
-serve_slot slot f =
+unfoldable pub serve_by_slot : ℕ → Parts → Concluded
+serve_by_slot slot f =
     if is_protocol_slot slot then at_protocols slot f
     else (if is_some (runtime_service_of slot) then at_runtime slot f
     else serve_event_or slot f (event_service_of slot))
+
+-- the slots of the boot services, 0 to 43, and of the console, 58 to 66
+abbrev pub is_boot_slot : ℕ → Bool
+is_boot_slot slot = nat_lt slot 44 || (nat_lt 57 slot && nat_lt slot 67)
+
+-- The service of a slot. Once boot services are over, the run halts where one of them or the console is called.
+-- (UEFI 2.10, 7.4.6: ExitBootServices)
+unfoldable pub serve_slot : ℕ → Parts → Concluded
+serve_slot slot f =
+    if f.runtime.gone && is_boot_slot slot then record { conclusion = Halts causes.BootGone; firmware = f }
+    else serve_by_slot slot f

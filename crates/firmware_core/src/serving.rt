@@ -248,6 +248,7 @@ impl Firmware {
         let clock = &mut self.clock;
         let count = &mut self.count;
         let runtime = &mut self.runtime;
+        let gone = runtime.gone;
         let answer = serve_runtime(
             alloc,
             slot,
@@ -258,7 +259,7 @@ impl Firmware {
             clock,
             count,
             now,
-            false,
+            gone,
         )?;
         Ok(served(&answer))
     }

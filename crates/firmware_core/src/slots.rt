@@ -1,6 +1,6 @@
 //! The service of each slot.
 ghost use Rattle.std.specs.Prelude.{◌≡◌, IfOk};
-ghost use Rattle.firmware_core.specs.Slots.{serve, serve_slot};
+ghost use Rattle.firmware_core.specs.Slots.{is_boot_slot, serve, serve_by_slot, serve_slot};
 
 use crate::conclusion::Conclusion;
 use crate::event_service::event_service_of;
@@ -8,15 +8,34 @@ use crate::firmware::Firmware;
 use crate::image_service::image_service_of;
 use crate::service::{Service, service_of};
 use protocol_services::is_protocol_slot;
+use record_text::Cause;
 use runtime_services::RuntimeService;
 use std::alloc::{AllocError, Global};
 use uh_base::EfiStatus;
 
+/// Whether a slot is that of a boot service or of the console.
+fn is_boot_slot(slot: u8) -> bool
+    ensures { result ≡ is_boot_slot slot }
+{
+    slot < 44 || (slot > 57 && slot < 67)
+}
+
 impl Firmware {
-    /// The service of a slot.
+    /// The service of a slot. Where boot services are over, one of them or of the console halts the run.
     #[tactic(auto, unfolding(crate::specs::Slots::serve_slot))]
     pub(crate) fn serve_slot(&mut self, alloc: Global, slot: u8) -> Result<Conclusion, AllocError>
         ensures { IfOk result (λ c. record { conclusion = c; firmware = self.new } ≡ serve_slot slot self.old) }
+    {
+        if self.runtime.gone && is_boot_slot(slot) {
+            return Ok(Conclusion::Halts(Cause::BootGone));
+        }
+        self.serve_by_slot(alloc, slot)
+    }
+
+    /// The service of a slot, whether boot services are over or not.
+    #[tactic(auto, unfolding(crate::specs::Slots::serve_by_slot))]
+    fn serve_by_slot(&mut self, alloc: Global, slot: u8) -> Result<Conclusion, AllocError>
+        ensures { IfOk result (λ c. record { conclusion = c; firmware = self.new } ≡ serve_by_slot slot self.old) }
     {
         if is_protocol_slot(slot) {
             self.at_protocols(alloc, slot)
