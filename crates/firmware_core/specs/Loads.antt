@@ -1,6 +1,6 @@
 -- The load of an image into a machine, and its unload.
-use Rattle.std.specs.Prelude.{ℕ, List, Option, Some, None, Result, Ok, Err}
-use Rattle.uh_base.specs.Statuses.{success}
+use Rattle.std.specs.Prelude.{ℕ, List, Option, Some, None, Result, Ok, Err, if◌then◌else◌}
+use Rattle.uh_base.specs.Statuses.{success, unsupported}
 use Rattle.event_queue.specs.Queue.{signal_each}
 use Rattle.image_services.specs.declared.refusal.LoadRefusal.{LoadRefusal}
 use Rattle.image_services.specs.Images.{Loaded, find_image}
@@ -37,8 +37,12 @@ load_comes_to s (Ok load) = answer_for (with_loaded s load.after load.answer.eve
 load_comes_to s (Err refusal) = record { status = load_status refusal; handle = 0; base = 0; pages = 0; state = s }
 
 -- An image is loaded without a parent.
+unfoldable pub loaded_at_boot : State → List ℕ → LoadDone
+loaded_at_boot s file = load_comes_to s (load_of s.firmware.runtime.layout (store_of s.firmware) file 0)
+
+-- Once boot services are over, none is loaded. (UEFI 2.10, 7.4.6: ExitBootServices)
 unfoldable pub loaded : State → List ℕ → LoadDone
-loaded s file = load_comes_to s (load_of s.firmware.runtime.layout (store_of s.firmware) file 0)
+loaded s file = if s.firmware.runtime.gone then record { status = unsupported; handle = 0; base = 0; pages = 0; state = s } else loaded_at_boot s file
 
 -- the status of an unload, and the machine behind it
 pub record UnloadDone : Type 0 where
@@ -49,5 +53,9 @@ abbrev pub unload_comes_to : State → calls.UnloadDone → UnloadDone
 unload_comes_to s done = record { status = done.status; state = record s { firmware = with_store s.firmware done.after } }
 
 -- An image that wasn't started goes, as by UnloadImage.
+unfoldable pub unloaded_at_boot : State → ℕ → UnloadDone
+unloaded_at_boot s handle = unload_comes_to s (calls.unloaded_to (store_of s.firmware) (image_unloaded (store_of s.firmware) handle))
+
+-- Once boot services are over, none is unloaded.
 unfoldable pub unloaded : State → ℕ → UnloadDone
-unloaded s handle = unload_comes_to s (calls.unloaded_to (store_of s.firmware) (image_unloaded (store_of s.firmware) handle))
+unloaded s handle = if s.firmware.runtime.gone then record { status = unsupported; state = s } else unloaded_at_boot s handle

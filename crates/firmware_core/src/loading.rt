@@ -5,7 +5,7 @@ ghost use Rattle.image_services.specs.Loads.{load_of};
 ghost use Rattle.image_services.specs.Unloads.{unloaded as image_unloaded};
 ghost use Rattle.image_services.specs.Views.{LoadGives, UnloadGives};
 ghost use Rattle.firmware_core.specs.Services.{store_of, with_store};
-ghost use Rattle.firmware_core.specs.Loads.{signalled, loaded, unloaded};
+ghost use Rattle.firmware_core.specs.Loads.{signalled, loaded, loaded_at_boot, unloaded, unloaded_at_boot};
 
 use crate::firmware::Firmware;
 use crate::machine::Machine;
@@ -85,16 +85,15 @@ fn refused(status: EfiStatus) -> (EfiStatus, u64, u64, u32)
     (status, 0, 0, 0)
 }
 
-/// Loads the image of a file of at most 4 MiB: the status, the handle, the base and the pages of 4,096 bytes, the last three 0
-/// where the load is refused. Then nothing changes. After want of memory the machine may only be dropped.
-#[tactic(auto, unfolding(crate::specs::Loads::loaded))]
-pub fn load(
+/// Loads an image while boot services last.
+#[tactic(auto, unfolding(crate::specs::Loads::loaded_at_boot))]
+fn load_at_boot(
     alloc: Global,
     machine: &mut Machine,
     file: &[u8],
 ) -> Result<(EfiStatus, u64, u64, u32), AllocError>
     requires { length file.now ≤ 0x400000 }
-    ensures { IfOk result (λ r. record { status = r.0.0; handle = r.1; base = r.2; pages = r.3; state = machine.new } ≡ loaded machine.old file.now) }
+    ensures { IfOk result (λ r. record { status = r.0.0; handle = r.1; base = r.2; pages = r.3; state = machine.new } ≡ loaded_at_boot machine.old file.now) }
 {
     match machine.firmware.load(alloc, file) {
         Ok(loaded) => {
@@ -115,16 +114,45 @@ pub fn load(
     }
 }
 
+/// Loads the image of a file of at most 4 MiB: the status, the handle, the base and the pages of 4,096 bytes, the last three 0
+/// where the load is refused, with EFI_UNSUPPORTED where boot services are over. Then nothing changes. After want of memory the
+/// machine may only be dropped.
+#[tactic(auto, unfolding(crate::specs::Loads::loaded))]
+pub fn load(
+    alloc: Global,
+    machine: &mut Machine,
+    file: &[u8],
+) -> Result<(EfiStatus, u64, u64, u32), AllocError>
+    requires { length file.now ≤ 0x400000 }
+    ensures { IfOk result (λ r. record { status = r.0.0; handle = r.1; base = r.2; pages = r.3; state = machine.new } ≡ loaded machine.old file.now) }
+{
+    if machine.firmware.runtime.gone {
+        return Ok(refused(EfiStatus::UNSUPPORTED));
+    }
+    load_at_boot(alloc, machine, file)
+}
+
+/// Unloads an image while boot services last.
+#[tactic(auto, unfolding(crate::specs::Loads::unloaded_at_boot))]
+fn unload_at_boot(machine: &mut Machine, handle: u64) -> EfiStatus
+    ensures { record { status = result.0; state = machine.new } ≡ unloaded_at_boot machine.old handle }
+{
+    match machine.firmware.try_unload(handle) {
+        Ok(()) => EfiStatus::SUCCESS,
+        Err(UnloadRefusal::Unknown) => EfiStatus::INVALID_PARAMETER,
+        Err(UnloadRefusal::Started) => EfiStatus::UNSUPPORTED,
+    }
+}
+
 /// Unloads the image of a handle, and answers the status: EFI_INVALID_PARAMETER where no loaded image has the handle, and
-/// EFI_UNSUPPORTED where the image was started; then nothing changes. It never lacks memory.
+/// EFI_UNSUPPORTED where the image was started or boot services are over; then nothing changes. It never lacks memory.
 #[tactic(auto, unfolding(crate::specs::Loads::unloaded))]
 pub fn unload(machine: &mut Machine, handle: u64) -> Result<EfiStatus, AllocError>
     ensures unload { IfOk result (λ status. record { status = status.0; state = machine.new } ≡ unloaded machine.old handle) }
     ensures answers { is_ok result ≡ true }
 {
-    match machine.firmware.try_unload(handle) {
-        Ok(()) => Ok(EfiStatus::SUCCESS),
-        Err(UnloadRefusal::Unknown) => Ok(EfiStatus::INVALID_PARAMETER),
-        Err(UnloadRefusal::Started) => Ok(EfiStatus::UNSUPPORTED),
+    if machine.firmware.runtime.gone {
+        return Ok(EfiStatus::UNSUPPORTED);
     }
+    Ok(unload_at_boot(machine, handle))
 }
