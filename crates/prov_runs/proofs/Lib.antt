@@ -11,3 +11,4 @@ pub mod FetchLemmas
 pub mod NodeLemmas
 pub mod MemoryLemmas
 pub mod OneLemmas
+pub mod StepLemmas

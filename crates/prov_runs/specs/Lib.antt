@@ -8,3 +8,4 @@ pub mod FetchLaws
 pub mod Steps
 pub mod NodeLaws
 pub mod OneNode
+pub mod StepLaws

@@ -3,6 +3,7 @@
 
 ghost use Rattle.prov_runs.specs.NodeLaws.{EdgesServe, ForksAtNode, GoesAtNode, JumpsAtNode, LoadsAtNode, SetsAtNode, StoresAtNode};
 ghost use Rattle.prov_runs.specs.OneNode.{OneNode};
+ghost use Rattle.prov_runs.specs.StepLaws.{StepForStep};
 
 use crate::fetches::fetches_alike;
 use crate::loads::{loads_hold, reads_hold};
@@ -66,4 +67,12 @@ pub fn one_node()
     jump_node();
     memory_node();
     edges_serve();
+}
+
+/// Two runs that stand at one node of a call, all of whose nodes keep the rules, go on alike: behind any number of steps
+/// both stand at one node, or both have left the image behind equally many steps. Neither traps.
+pub fn step_for_step()
+    ensures { StepForStep }
+{
+    one_node();
 }
