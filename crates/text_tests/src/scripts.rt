@@ -163,7 +163,7 @@ const STEPS: [(&str, u32, ScriptKind); 20] = [
     ),
     ("[[step]]\ndo = 1\nother = 1\n", 1, ScriptKind::Shape),
     ("[[step]]\ndo = \"Load\"\nother = 1\n", 1, ScriptKind::Value),
-    ("[[step]]\ndo = \"peek\"\n", 1, ScriptKind::Value),
+    ("[[step]]\ndo = \"peek\"\n", 1, ScriptKind::Missing),
     (
         "[[step]]\ndo = \"load\"\nimage = \"app\"\nbound = 5\n",
         1,
