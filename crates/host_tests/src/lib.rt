@@ -8,4 +8,6 @@ mod events;
 #[cfg(test)]
 mod guests;
 #[cfg(test)]
+mod images;
+#[cfg(test)]
 mod runs;

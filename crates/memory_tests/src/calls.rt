@@ -40,7 +40,7 @@ fn checks(memory: &GuestMemory, view: &View, at: u64, len: u64) -> [bool; 5] {
 fn pointers_and_buffers(rt: HostRuntime) -> Result<(), Fail> {
     let memory = pages(rt.alloc())?;
     let view = View::identity(rt.alloc(), 0x100000, 0x100000)?;
-    let rows = [
+    const ROWS: [(u64, u64, [bool; 5]); 9] = [
         (0, 8, [false, false, false, false, true]),
         (0, 0, [false, false, true, true, true]),
         (0x102000, 8, [true; 5]),
@@ -51,7 +51,7 @@ fn pointers_and_buffers(rt: HostRuntime) -> Result<(), Fail> {
         (0xffff_ffff_ffff_fffc, 0, [true; 5]),
         (0x102000, u64::MAX, [false; 5]),
     ];
-    for (at, len, wanted) in rows {
+    for (at, len, wanted) in ROWS {
         assert_eq!(rt; checks(&memory, &view, at, len), wanted);
     }
     Ok(())

@@ -36,11 +36,11 @@ fn the_map_with_an_image(rt: HostRuntime) -> Result<(), Fail> {
     assert_eq!(rt; short[0], 0xaa);
     let mut buffer = [0xaa; 281];
     assert_eq!(rt; write_map(list.as_slice(), &mut buffer), Ok(280));
-    let first = [
+    const FIRST: [u8; 40] = [
         7, 0, 0, 0, 0, 0, 0, 0, 0, 0, 0, 0x40, 0, 0, 0, 0, 0, 0, 0, 0, 0, 0, 0, 0, 0xb9, 0x0f, 0,
         0, 0, 0, 0, 0, 8, 0, 0, 0, 0, 0, 0, 0,
     ];
-    assert!(rt; buffer.starts_with(&first));
+    assert!(rt; buffer.starts_with(&FIRST));
     assert_eq!(rt; read_descriptor(&buffer[240..280]), wanted[6]);
     assert_eq!(rt; buffer[279], 0x80);
     assert_eq!(rt; buffer[280], 0xaa);

@@ -19,22 +19,21 @@ fn the_layout_at_opening(rt: HostRuntime) -> Result<(), Fail> {
 #[test]
 fn types_and_owners_at_opening(rt: HostRuntime) -> Result<(), Fail> {
     let map = PageMap::new(rt.alloc(), &Layout::at(0x4000_0000, 4096))?;
-    let firmware = |memory_type| Some((memory_type, Owner::Firmware));
-    let rows = [
+    const ROWS: [(u64, Option<(u32, Owner)>); 12] = [
         (0x3fff_ffff, None),
         (0x4000_0000, Some((7, Owner::Free))),
         (0x40fb_bfff, Some((7, Owner::Free))),
-        (0x40fb_c000, firmware(2)),
-        (0x40fd_cfff, firmware(2)),
-        (0x40fd_d000, firmware(4)),
-        (0x40ff_dfff, firmware(4)),
-        (0x40ff_e000, firmware(6)),
-        (0x40ff_f000, firmware(5)),
-        (0x40ff_ffff, firmware(5)),
+        (0x40fb_c000, Some((2, Owner::Firmware))),
+        (0x40fd_cfff, Some((2, Owner::Firmware))),
+        (0x40fd_d000, Some((4, Owner::Firmware))),
+        (0x40ff_dfff, Some((4, Owner::Firmware))),
+        (0x40ff_e000, Some((6, Owner::Firmware))),
+        (0x40ff_f000, Some((5, Owner::Firmware))),
+        (0x40ff_ffff, Some((5, Owner::Firmware))),
         (0x4100_0000, None),
         (u64::MAX, None),
     ];
-    for (at, wanted) in rows {
+    for (at, wanted) in ROWS {
         assert_eq!(rt; map.type_at(at), wanted);
     }
     Ok(())
@@ -66,7 +65,7 @@ fn a_page_is_given_and_taken_back(rt: HostRuntime) -> Result<(), Fail> {
 
 #[test]
 fn requests_at_the_edges(rt: HostRuntime) -> Result<(), Fail> {
-    let rows = [
+    const ROWS: [(u32, u32, u64, u64, Result<u64, PageRefusal>); 23] = [
         (0, 2, 4029, 0, Err(PageRefusal::NoPages)),
         (0, 2, 4028, 0, Ok(0x4000_0000)),
         (0, 2, u64::MAX, 0, Err(PageRefusal::NoPages)),
@@ -91,7 +90,7 @@ fn requests_at_the_edges(rt: HostRuntime) -> Result<(), Fail> {
         (0, 0x7000_0000, 1, 0, Ok(0x40fb_b000)),
         (0, u32::MAX, 1, 0, Ok(0x40fb_b000)),
     ];
-    for (kind, memory_type, pages, at, wanted) in rows {
+    for (kind, memory_type, pages, at, wanted) in ROWS {
         let mut map = PageMap::new(rt.alloc(), &Layout::at(0x4000_0000, 4096))?;
         assert_eq!(rt; map.allocation(kind, memory_type, pages, at), wanted);
         assert_eq!(rt;
@@ -105,7 +104,7 @@ fn requests_at_the_edges(rt: HostRuntime) -> Result<(), Fail> {
 
 #[test]
 fn pages_taken_back_at_the_edges(rt: HostRuntime) -> Result<(), Fail> {
-    let rows = [
+    const ROWS: [(Owner, u64, u64, Result<(), PageRefusal>); 11] = [
         (Owner::Pages, 0x40fb_8001, 1, Err(PageRefusal::Invalid)),
         (Owner::Pages, 0x40fb_8000, 0, Err(PageRefusal::Invalid)),
         (Owner::Image, 0x40fb_8000, 1, Err(PageRefusal::NotFound)),
@@ -128,7 +127,7 @@ fn pages_taken_back_at_the_edges(rt: HostRuntime) -> Result<(), Fail> {
         (Owner::Pages, 0x40fb_9000, 2, Ok(())),
         (Owner::Pages, 0x40fb_b000, 1, Ok(())),
     ];
-    for (owner, at, pages, wanted) in rows {
+    for (owner, at, pages, wanted) in ROWS {
         let mut map = PageMap::new(rt.alloc(), &Layout::at(0x4000_0000, 4096))?;
         assert_eq!(rt; map.allocate(Owner::Pages, 0, 2, 2, 0), Ok(0x40fb_a000));
         assert_eq!(rt; map.allocate(Owner::Pages, 0, 4, 2, 0), Ok(0x40fb_8000));

@@ -54,7 +54,7 @@ fn the_lowest_gap_of_the_first_page(rt: HostRuntime) -> Result<(), Fail> {
 
 #[test]
 fn sizes_and_types_at_the_edges(rt: HostRuntime) -> Result<(), Fail> {
-    let rows = [
+    const ROWS: [(u32, u64, Result<u64, PoolRefusal>, u64); 10] = [
         (4, 0, Ok(0x40fb_b000), 8),
         (4, 1, Ok(0x40fb_b000), 8),
         (4, 2041, Ok(0x40fb_b000), 2048),
@@ -66,7 +66,7 @@ fn sizes_and_types_at_the_edges(rt: HostRuntime) -> Result<(), Fail> {
         (14, 8, Err(PoolRefusal::Invalid), 0),
         (0x7000_0000, 8, Ok(0x40fb_b000), 8),
     ];
-    for (memory_type, size, wanted, rounded) in rows {
+    for (memory_type, size, wanted, rounded) in ROWS {
         let mut map = PageMap::new(rt.alloc(), &Layout::at(0x4000_0000, 4096))?;
         let mut pool = Pool::new(rt.alloc());
         assert_eq!(rt; pool.allocate(&mut map, memory_type, size), wanted);

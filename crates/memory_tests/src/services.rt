@@ -65,16 +65,16 @@ fn crc_of_digits(rt: HostRuntime) -> Result<(), Fail> {
     let alloc = rt.alloc();
     let mut memory = fresh(alloc)?;
     let view = View::identity(alloc, 0x100000, 0x100000)?;
-    let invalid = Answer::Gives(EfiStatus::INVALID_PARAMETER.0);
     assert!(rt; put(&mut memory, &view, 0x110000, 0x3837_3635_3433_3231));
     assert!(rt; put(&mut memory, &view, 0x110008, 0x39));
-    let rows = [
+    const INVALID: Answer = Answer::Gives(EfiStatus::INVALID_PARAMETER.0);
+    const ROWS: [([u64; 5], Answer, u64); 4] = [
         ([0x110000, 9, 0x110100, 0, 0], Answer::Gives(0), 0xcbf4_3926),
-        ([0x110000, 0, 0x110200, 0, 0], invalid, 0),
-        ([0, 9, 0x110200, 0, 0], invalid, 0),
-        ([0x110000, 9, 0, 0, 0], invalid, 0),
+        ([0x110000, 0, 0x110200, 0, 0], INVALID, 0),
+        ([0, 9, 0x110200, 0, 0], INVALID, 0),
+        ([0x110000, 9, 0, 0, 0], INVALID, 0),
     ];
-    for (arguments, answer, value) in rows {
+    for (arguments, answer, value) in ROWS {
         let told = calculate_crc32(alloc, &call(arguments), &view, &mut memory)?;
         assert_eq!(rt; told, answer);
         assert_eq!(rt; number_seen(&memory, &view, arguments[2], 4), value);

@@ -10,4 +10,8 @@ mod image_lines;
 #[cfg(test)]
 mod lines;
 #[cfg(test)]
+mod outcomes;
+#[cfg(test)]
 mod scripts;
+#[cfg(test)]
+mod steps;
