@@ -1,1 +1,2 @@
 mod ExitLemmas
+mod RoomLemmas

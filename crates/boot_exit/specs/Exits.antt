@@ -1,7 +1,11 @@
 -- The end of boot services (UEFI 2.10, section 7.4.6: ExitBootServices).
-use Rattle.std.specs.Prelude.{ℕ, ◌==◌, not, Bool, List, Result, Ok, Err, if◌then◌else◌}
-use Rattle.guest_memory.specs.Pages.{Pages}
-use Rattle.guest_memory.specs.Changes.{put_part}
+use Rattle.std.specs.Prelude.{ℕ, ◌≡◌, ◌==◌, not, nat_lt, Bool, true, false, List, Result, Ok, Err, if◌then◌else◌}
+use Rattle.uh_base.specs.Limits.{frame_limit}
+use Rattle.guest_memory.specs.declared.rights.PutEnd.{PutEnd}
+use Rattle.guest_memory.specs.declared.rights.PutEnd.TheVariants as puts
+use Rattle.guest_memory.specs.Lists.{count_true}
+use Rattle.guest_memory.specs.Pages.{Pages, page_of}
+use Rattle.guest_memory.specs.Changes.{put_part, reserved, SomeUntouched, TouchedBesides}
 use Rattle.page_alloc.specs.declared.layout.Layout.{Layout}
 use Rattle.event_queue.specs.declared.event.Notify.{Notify}
 use Rattle.event_queue.specs.Kinds.{exit_group, virtual_group}
@@ -22,6 +26,20 @@ exit_begun known present key =
 abbrev pub after_begin : {X : Type 0} → Result X ExitRefusal → EventList → EventList
 after_begin (Ok done) s = group_signalled (all_stopped s) exit_group
 after_begin (Err refusal) s = s
+
+-- The page of the system table is written at the end, so it has to be touched, and there may be no frame for it.
+abbrev pub with_room : Layout → Pages → Pages
+with_room layout m = reserved m (page_of m layout.system) 1
+
+abbrev pub lacks_room : Layout → Pages → Bool
+lacks_room layout m = nat_lt frame_limit (count_true (with_room layout m).touched)
+
+-- A touch of that page that ends so leads from old to new.
+abbrev pub RoomGives : {X : Type 0} → Result X PutEnd → Layout → Pages → Pages → Type 0
+RoomGives (Ok done) layout old new = (lacks_room layout old ≡ false) × (new ≡ with_room layout old)
+RoomGives (Err puts.Outside) layout old new = ⊥
+RoomGives (Err puts.Frames) layout old new = (lacks_room layout old ≡ true) × (new ≡ old)
+RoomGives (Err puts.Memory) layout old new = SomeUntouched old (page_of old layout.system) 1 × TouchedBesides old new
 
 -- the functions to call at the virtual address change, and the memory and the events behind the end of boot services
 pub record Finished : Type 0 where

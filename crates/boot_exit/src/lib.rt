@@ -5,8 +5,10 @@ mod begin;
 mod finish;
 mod laws;
 mod refusal;
+mod room;
 
 pub use begin::begin_exit;
 pub use finish::finish_exit;
 pub use laws::{no_timer_runs_on, others_are_dropped};
 pub use refusal::ExitRefusal;
+pub use room::make_room;

@@ -1,4 +1,5 @@
 pub mod Images
+pub mod Kept
 pub mod Stores
 pub mod Blocks
 pub mod Placing

@@ -1,5 +1,5 @@
 //! The images that are loaded.
-ghost use Rattle.std.specs.Prelude.{◌≡◌, ◌<◌, ◌++◌, ◌∷◌, [], nat_lt, List, OnOk, OnErr, length};
+ghost use Rattle.std.specs.Prelude.{◌≡◌, ◌<◌, ◌++◌, ◌∷◌, [], nat_lt, slice_get, List, OnOk, OnErr, length};
 ghost use Rattle.std.specs.Option.{option_copied};
 ghost use Rattle.image_services.specs.Images.{Loaded as LoadedImage, find_image, without_image, with_started, has_handle, started_at, most_images};
 
@@ -91,6 +91,20 @@ impl Images {
         ensures { option_copied result ≡ find_image self.now handle }
     {
         self.images.iter().find(|image| image.has(handle))
+    }
+
+    /// The image at an index, in order of loading from 0 on; None where there are no more.
+    pub fn at(&self, index: usize) -> Option<&Loaded>
+        ensures { option_copied result ≡ slice_get self.now index }
+    {
+        self.images.get(index)
+    }
+
+    /// The images, in order of loading.
+    pub(crate) fn list(&self) -> &[Loaded]
+        ensures { result.now ≡ self.now }
+    {
+        self.images.as_slice()
     }
 
     /// Notes that the image of a handle was started.

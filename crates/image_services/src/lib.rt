@@ -5,6 +5,7 @@ mod block;
 mod claiming;
 mod images;
 mod installing;
+mod keeping;
 mod laws;
 mod load;
 mod marks;

@@ -1,3 +1,4 @@
 pub mod Members
 pub mod Accepted
 pub mod Lawful
+mod Counts

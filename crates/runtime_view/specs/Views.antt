@@ -1,6 +1,7 @@
 -- The windows through which code sees RAM, before a virtual address map and after it (UEFI 2.10, section 8.4:
 -- SetVirtualAddressMap).
-use Rattle.std.specs.Prelude.{ℕ, ◌≡◌, ◌≤◌, ◌<◌, ◌+◌, ◌-◌, ◌*◌, ◌^◌, nat_lt, max, min, true, List, [], ◌∷◌, ◌++◌, slice_get, Some, if◌then◌else◌}
+use Rattle.std.specs.Prelude.{ℕ, ◌≡◌, ◌≤◌, ◌<◌, ◌+◌, ◌-◌, ◌*◌, ◌^◌, nat_lt, max, min, true, List, [], ◌∷◌, ◌++◌, length, slice_get, Some, if◌then◌else◌}
+use Rattle.std.specs.List.{filter}
 use Rattle.base_reloc.specs.Moved.{sum}
 use Rattle.page_alloc.specs.declared.layout.Layout.{Layout}
 use Rattle.memory_map.specs.declared.descriptor.Descriptor.{Descriptor}
@@ -48,6 +49,10 @@ ranges_between layout from (d ∷ ds) =
 unfoldable pub view_after : Layout → List Descriptor → List Descriptor → ℕ → List Window
 view_after layout descriptors entries os_virtual =
     runtime_windows entries descriptors ++ os_window layout os_virtual ∷ ranges_between layout layout.base descriptors
+
+-- how many windows it has, whatever the entries are, and wherever the operating system's window is seen
+unfoldable pub window_count : Layout → List Descriptor → ℕ
+window_count layout descriptors = length (filter is_runtime descriptors) + 1 + length (ranges_between layout layout.base descriptors)
 
 -- no runtime descriptor meets the operating system's window
 abbrev pub IsClear : Layout → Descriptor → Type 0

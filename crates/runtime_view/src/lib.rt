@@ -2,7 +2,9 @@
 #![tactic(auto)]
 
 mod after;
+mod counting;
 mod filling;
 
 pub use after::view_after;
+pub use counting::window_count;
 pub use filling::virtual_of;
