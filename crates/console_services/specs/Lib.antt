@@ -1,3 +1,4 @@
 pub mod Strings
 pub mod Console
+pub mod Modes
 pub mod Views

@@ -4,5 +4,5 @@
 mod mode;
 mod text;
 
-pub use mode::set_mode;
+pub use mode::{query_mode, set_mode};
 pub use text::{Reply, output_string, test_string};

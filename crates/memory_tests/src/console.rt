@@ -1,7 +1,8 @@
 //! Strings that are written down elsewhere, as a guest gives them.
 
 use address_view::View;
-use console_services::{Reply, output_string, set_mode, test_string};
+use console_services::{Reply, output_string, query_mode, set_mode, test_string};
+use guest_call::{Answer, number_seen};
 use guest_memory::GuestMemory;
 use std::alloc::{AllocError, Global};
 use std::test::Fail;
@@ -89,5 +90,33 @@ fn there_is_one_mode(rt: HostRuntime) -> Result<(), Fail> {
     assert_eq!(rt; set_mode(0), EfiStatus::SUCCESS);
     assert_eq!(rt; set_mode(1), EfiStatus::UNSUPPORTED);
     assert_eq!(rt; set_mode(1 << 32), EfiStatus::UNSUPPORTED);
+    Ok(())
+}
+
+#[test]
+fn the_mode_is_told(rt: HostRuntime) -> Result<(), Fail> {
+    const INVALID: u64 = EfiStatus::INVALID_PARAMETER.0;
+    // The mode, where the columns and the rows are told, the answer, and what stands at 0x100010 and 0x100018 then.
+    const ROWS: [(u64, u64, u64, u64, u64, u64); 6] = [
+        (0, 0, 0x100018, INVALID, 0, 0),
+        (0, 0x100010, 0x100ff9, INVALID, 0, 0),
+        (1, 0x100010, 0, INVALID, 0, 0),
+        (1, 0x100010, 0x100018, EfiStatus::UNSUPPORTED.0, 0, 0),
+        (0, 0x100010, 0x100018, 0, 80, 25),
+        (0, 0x100010, 0x100010, 0, 25, 25),
+    ];
+    let alloc = rt.alloc();
+    let view = View::identity(alloc, 0x100000, 0x1000)?;
+    let mut memory = page_with(alloc, b"H\0")?;
+    for (mode, columns, rows, answer, first, second) in ROWS {
+        let mut registers = [0; 32];
+        registers[11] = mode;
+        registers[12] = columns;
+        registers[13] = rows;
+        let told = query_mode(&registers, &view, &mut memory)?;
+        assert_eq!(rt; told, Answer::Gives(answer));
+        assert_eq!(rt; number_seen(&memory, &view, 0x100010, 8), first);
+        assert_eq!(rt; number_seen(&memory, &view, 0x100018, 8), second);
+    }
     Ok(())
 }
