@@ -6,15 +6,16 @@ use Rattle.std.proofs.lemmas.Bool.Decides.{nat_tests}
 use Rattle.event_queue.specs.declared.event.Entry.{Entry}
 use Rattle.event_queue.specs.declared.event.Notify.{Notify}
 use Rattle.event_queue.specs.Queue.{EventList, is_entry, greatest, next_entry, notified, after_next}
-use Rattle.event_queue.specs.Timers.{has_moment, ticked, after_tick}
+use Rattle.event_queue.specs.Timers.{has_moment, ticked}
 use Rattle.event_queue.specs.Laws.{TicksOnce}
 use Rattle.firmware_core.specs.declared.happened.Happened.{Happened}
 use Rattle.firmware_core.specs.declared.happened.Happened.TheVariants.{Turned, Said, Left, Reset, Halted}
 use Rattle.firmware_core.specs.declared.happened.Halt.{Halt}
+use Rattle.firmware_core.specs.Parts.{Parts}
 use Rattle.firmware_core.specs.Frames.{tick_is_due, notice_of, with_notification, is_full}
 use Rattle.firmware_core.specs.Turns.{State, Turn, Tick, Notice, tick_turn, next_turn, turn_of}
-use Rattle.firmware_core.specs.Jobs.{Job, counts, or_next, uncounted, most_uncounted, settled, joined, said_before, turns_of, steps_left, job_of, goes_on, JobsAreTurns}
-use Rattle.firmware_core.proofs.TurnLemmas.{Comes, Ticks, Notices, Neither, comes, counted_counts, next_is_tick, next_is_notice, next_is_counted, turn_is, full_turn, turn_counts, turn_keeps, turn_happens, last_turn}
+use Rattle.firmware_core.specs.Jobs.{Job, counts, or_next, uncounted, events_behind, most_uncounted, settled, joined, said_before, turns_of, steps_left, job_of, goes_on, JobsAreTurns}
+use Rattle.firmware_core.proofs.TurnLemmas.{Comes, Ticks, Notices, Neither, comes, none_behind, counted_counts, next_is_tick, next_is_notice, next_is_counted, turn_is, full_turn, turn_counts, turn_keeps, turn_happens, last_turn}
 
 -- ---- what starts leaves the queue
 
@@ -58,13 +59,11 @@ next_found queue tpl entry h = by (nat_lt tpl (greatest queue)) h
 
 -- ---- how many turns that count no step may come
 
-quiet_events : (e : EventList) (t : ℕ) → has_moment e t ≡ false → after_tick e t ≡ e
-unfolding after_tick
-quiet_events e t h = rw h refl
+quiet_events : (f : Parts) → tick_is_due f ≡ false → events_behind f ≡ f.events
+quiet_events f h = rw h refl
 
-due_events_tick : (e : EventList) (t : ℕ) → has_moment e t ≡ true → after_tick e t ≡ ticked e t
-unfolding after_tick
-due_events_tick e t h = rw h refl
+due_events : (f : Parts) → tick_is_due f ≡ true → events_behind f ≡ ticked f.events f.time
+due_events f h = rw h refl
 
 abbrev pub one_if : Bool → ℕ
 one_if true = 1
@@ -72,13 +71,13 @@ one_if false = 0
 
 -- a tick where one is due, and a start for each notification that then stands in the queue
 abbrev pub need : State → ℕ
-need s = one_if (tick_is_due s.firmware) + length (after_tick s.firmware.events s.firmware.time).queue
+need s = one_if (tick_is_due s.firmware) + length (events_behind s.firmware).queue
 
 at_most_one : (b : Bool) → one_if b ≤ 1
 at_most_one true = omega arith
 at_most_one false = omega arith
 
-need_is : (s : State) → need s ≡ one_if (tick_is_due s.firmware) + length (after_tick s.firmware.events s.firmware.time).queue
+need_is : (s : State) → need s ≡ one_if (tick_is_due s.firmware) + length (events_behind s.firmware).queue
 need_is s = refl
 
 enough : (s : State) → need s ≤ most_uncounted s
@@ -87,11 +86,11 @@ enough s = let one = at_most_one (tick_is_due s.firmware) in let is = need_is s 
 quiet_need : (s : State) → tick_is_due s.firmware ≡ false → need s ≡ length s.firmware.events.queue
 quiet_need s h =
     let none : one_if (tick_is_due s.firmware) ≡ 0 = ap one_if h in
-    let same : length (after_tick s.firmware.events s.firmware.time).queue ≡ length s.firmware.events.queue = ap (λ (e : EventList). length e.queue) (quiet_events s.firmware.events s.firmware.time h) in
+    let same : length (events_behind s.firmware).queue ≡ length s.firmware.events.queue = ap (λ (e : EventList). length e.queue) (quiet_events s.firmware h) in
     let is = need_is s in
     omega (arith, none, same, is)
 
-due_need : (s : State) → tick_is_due s.firmware ≡ true → need s ≡ length (after_tick s.firmware.events s.firmware.time).queue + 1
+due_need : (s : State) → tick_is_due s.firmware ≡ true → need s ≡ length (events_behind s.firmware).queue + 1
 due_need s h =
     let one : one_if (tick_is_due s.firmware) ≡ 1 = ap one_if h in
     let is = need_is s in
@@ -100,11 +99,11 @@ due_need s h =
 module _ (once : TicksOnce) where
   tick_falls : (s : State) → tick_is_due s.firmware ≡ true → need (tick_turn s).state < need s
   tick_falls s h =
-      let is = due_events_tick s.firmware.events s.firmware.time h in
-      let quiet : has_moment (ticked s.firmware.events s.firmware.time) s.firmware.time ≡ false = ap (λ (e : EventList). has_moment e s.firmware.time) (sym is) ∙ once s.firmware.events s.firmware.time in
+      let is = due_events s.firmware h in
+      let quiet = none_behind once s.firmware h in
       let after : need (tick_turn s).state ≡ length (ticked s.firmware.events s.firmware.time).queue = quiet_need (tick_turn s).state quiet in
       let before = due_need s h in
-      let same : length (after_tick s.firmware.events s.firmware.time).queue ≡ length (ticked s.firmware.events s.firmware.time).queue = ap (λ (e : EventList). length e.queue) is in
+      let same : length (events_behind s.firmware).queue ≡ length (ticked s.firmware.events s.firmware.time).queue = ap (λ (e : EventList). length e.queue) is in
       omega (arith, after, before, same)
 
   notice_by : (s : State) (n : Notify) → tick_is_due s.firmware ≡ false → (o : Option Entry) → next_entry s.firmware.events.queue s.firmware.hart.tpl ≡ o → notified s.firmware.events.events o ≡ Some n

@@ -1,10 +1,10 @@
 -- Each turn that doesn't end a job brings its end nearer.
-use Rattle.std.proofs.Common.{◌≡◌, ℕ, ◌≤◌, ◌<◌, Bool, true, false, Option, Some, None, Result, Ok, Err, IfOk, refl, sym, ap, ◌∙◌, arith}
+use Rattle.std.proofs.Common.{◌≡◌, ◌≤◌, ◌<◌, Bool, true, false, Option, Some, None, Result, Ok, Err, IfOk, refl, sym, ap, ◌∙◌, arith}
 use Rattle.std.specs.Prelude.{if◌then◌else◌}
 use Rattle.event_queue.specs.declared.event.Entry.{Entry}
 use Rattle.event_queue.specs.declared.event.Notify.{Notify}
-use Rattle.event_queue.specs.Queue.{EventList, Whole, next_entry, after_next}
-use Rattle.event_queue.specs.Timers.{has_moment, ticked, after_tick}
+use Rattle.event_queue.specs.Queue.{Whole, next_entry, after_next}
+use Rattle.event_queue.specs.Timers.{has_moment}
 use Rattle.event_queue.specs.Laws.{NextIsAbove, TicksOnce}
 use Rattle.firmware_core.specs.declared.happened.Happened.{Happened}
 use Rattle.firmware_core.specs.declared.happened.Happened.TheVariants.{Turned}
@@ -12,32 +12,27 @@ use Rattle.firmware_core.specs.Frames.{tick_is_due, notice_of, without_notice, w
 use Rattle.firmware_core.specs.Turns.{State, Turn, Tick, Notice, with_firmware, tick_turn, next_turn, turn_of}
 use Rattle.firmware_core.specs.Jobs.{counts, goes_on}
 use Rattle.firmware_core.specs.Views.{due, potential}
-use Rattle.firmware_core.proofs.TurnLemmas.{Comes, Ticks, Notices, Neither, comes, counted_counts, next_is_tick, next_is_notice, next_is_counted, turn_is, full_turn, turn_counts, counts_below}
-
-ticked_is : (e : EventList) (t : ℕ) → has_moment e t ≡ true → after_tick e t ≡ ticked e t
-unfolding after_tick
-ticked_is e t h = rw h refl
+use Rattle.firmware_core.proofs.TurnLemmas.{Comes, Ticks, Notices, Neither, comes, none_behind, counted_counts, next_is_tick, next_is_notice, next_is_counted, turn_is, full_turn, turn_counts, counts_below}
 
 module _ (above : NextIsAbove) (once : TicksOnce) (s : State) (within : s.steps ≤ s.bound) (whole : Whole s.firmware.events) where
   tick_nearer : tick_is_due s.firmware ≡ true → potential (tick_turn s).state < potential s
   tick_nearer h =
-      let is = ticked_is s.firmware.events s.firmware.time h in
-      let quiet : has_moment (ticked s.firmware.events s.firmware.time) s.firmware.time ≡ false = ap (λ (e : EventList). has_moment e s.firmware.time) (sym is) ∙ once s.firmware.events s.firmware.time in
+      let quiet = none_behind once s.firmware h in
       let after : due (tick_turn s).state ≡ 0 = rw quiet refl in
       let before : due s ≡ 1 = rw h refl in
       omega (arith, after, before)
 
-  same_tick : (o : Option Entry) (t : ℕ) → has_moment (after_next s.firmware.events o) t ≡ has_moment s.firmware.events t
+  same_tick : (o : Option Entry) → tick_is_due (record s.firmware { events = after_next s.firmware.events o }) ≡ tick_is_due s.firmware
   unfolding after_next has_moment
-  same_tick None t = refl
-  same_tick (Some entry) t = refl
+  same_tick None = refl
+  same_tick (Some entry) = refl
 
   notice_nearer : (n : Notify) → tick_is_due s.firmware ≡ false → notice_of s.firmware ≡ Some n → potential (with_firmware s (with_notification (without_notice s.firmware) n)) < potential s
   unfolding with_notification
   notice_nearer n quiet notice =
       let is = above s.firmware.events whole s.firmware.hart.tpl n notice in
       let up = is.above in let most = is.most in
-      let still : tick_is_due (with_notification (without_notice s.firmware) n) ≡ false = same_tick (next_entry s.firmware.events.queue s.firmware.hart.tpl) s.firmware.time ∙ quiet in
+      let still : tick_is_due (with_notification (without_notice s.firmware) n) ≡ false = same_tick (next_entry s.firmware.events.queue s.firmware.hart.tpl) ∙ quiet in
       let after : due (with_firmware s (with_notification (without_notice s.firmware) n)) ≡ 0 = rw still refl in
       let before : due s ≡ 0 = rw quiet refl in
       omega (arith, up, most, after, before)

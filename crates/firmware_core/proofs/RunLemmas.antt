@@ -3,8 +3,8 @@ use Rattle.std.proofs.Common.{◌≡◌, ◌⊎◌, inl, inr, ℕ, zero, suc, �
 use Rattle.std.specs.List.{filter}
 use Rattle.event_queue.specs.declared.event.Entry.{Entry}
 use Rattle.event_queue.specs.declared.event.Notify.{Notify}
-use Rattle.event_queue.specs.Queue.{EventList, next_entry, after_next}
-use Rattle.event_queue.specs.Timers.{has_moment, ticked, after_tick}
+use Rattle.event_queue.specs.Queue.{next_entry, after_next}
+use Rattle.event_queue.specs.Timers.{has_moment}
 use Rattle.event_queue.specs.Laws.{NextIsAbove, TicksOnce, IsAbove}
 use Rattle.firmware_core.specs.declared.happened.Happened.TheVariants.{Turned, Halted}
 use Rattle.firmware_core.specs.declared.happened.Halt.{Halt}
@@ -12,7 +12,7 @@ use Rattle.firmware_core.specs.Frames.{tick_is_due, with_tick, notice_of, withou
 use Rattle.firmware_core.specs.Turns.{State, Turn, Next, Tick, Notice, Bound, Slot, Instruction, with_firmware, next_turn, turn_of}
 use Rattle.firmware_core.specs.Jobs.{counts, goes_on, steps_left}
 use Rattle.firmware_core.specs.Runs.{FreeTurn, FreeTurns, is_tick, is_start, FreeTurnsAreFew, Ends, JobsEnd}
-use Rattle.firmware_core.proofs.TurnLemmas.{Comes, Ticks, Notices, Neither, comes, counted_counts, next_is_tick, next_is_notice, next_is_counted, turn_is, full_turn, turn_counts, turn_keeps, turn_happens, counts_below}
+use Rattle.firmware_core.proofs.TurnLemmas.{Comes, Ticks, Notices, Neither, comes, none_behind, counted_counts, next_is_tick, next_is_notice, next_is_counted, turn_is, full_turn, turn_counts, turn_keeps, turn_happens, counts_below}
 use Rattle.firmware_core.proofs.JobLemmas.{need, need_falls}
 use Rattle.firmware_core.proofs.SilentLemmas.{steps_of, within_by}
 
@@ -47,7 +47,7 @@ module _ (s : State) where
       let is = turn_is s (Notice n) e in
       ap (λ (t : Turn). t.state) is ∙ start_by n (is_full s.firmware) (ap (λ (t : Turn). t.happened) (sym is) ∙ h)
 
-  same_tick : (o : Option Entry) → has_moment (after_next s.firmware.events o) s.firmware.time ≡ has_moment s.firmware.events s.firmware.time
+  same_tick : (o : Option Entry) → tick_is_due (record s.firmware { events = after_next s.firmware.events o }) ≡ tick_is_due s.firmware
   unfolding after_next has_moment
   same_tick None = refl
   same_tick (Some entry) = refl
@@ -69,10 +69,6 @@ module _ (s : State) where
 
 -- ---- few turns count no step
 
-ticked_is : (e : EventList) (t : ℕ) → has_moment e t ≡ true → after_tick e t ≡ ticked e t
-unfolding after_tick
-ticked_is e t h = rw h refl
-
 no_tick : (turns : List Next) (old new : State) → tick_is_due old.firmware ≡ false → FreeTurns turns old new → length (filter is_tick turns) ≡ 0
 no_tick [] old new quiet path = refl
 no_tick (Tick ∷ more) old new quiet path = let k : false ≡ true = sym quiet ∙ is_due old path.0.is in let bad : ⊥ = cc in absurd bad
@@ -83,9 +79,7 @@ no_tick (Instruction ∷ more) old new quiet path = let k = path.0.free in let b
 
 module _ (above : NextIsAbove) (once : TicksOnce) where
   quiet_behind : (s : State) → next_turn s ≡ Tick → tick_is_due (turn_of s).state.firmware ≡ false
-  quiet_behind s e =
-      let is = ticked_is s.firmware.events s.firmware.time (is_due s e) in
-      ap (λ (t : State). tick_is_due t.firmware) (behind_tick s e) ∙ ap (λ (l : EventList). has_moment l s.firmware.time) (sym is) ∙ once s.firmware.events s.firmware.time
+  quiet_behind s e = ap (λ (t : State). tick_is_due t.firmware) (behind_tick s e) ∙ none_behind once s.firmware (is_due s e)
 
   one_tick : (turns : List Next) (old new : State) → FreeTurns turns old new → length (filter is_tick turns) ≤ 1
   one_tick [] old new path = omega arith

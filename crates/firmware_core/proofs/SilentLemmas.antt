@@ -1,5 +1,5 @@
 -- Turns that say nothing.
-use Rattle.std.proofs.Common.{◌≡◌, ◌≢◌, ◌⊎◌, inl, inr, ℕ, zero, suc, ◌+◌, ◌≤◌, ◌<◌, ◌-◌, Bool, true, false, Option, Some, None, refl, sym, ap, subst, ◌∙◌, arith}
+use Rattle.std.proofs.Common.{◌≡◌, ◌≢◌, ◌⊎◌, inl, inr, ℕ, zero, suc, ◌+◌, ◌≤◌, ◌<◌, ◌-◌, Bool, true, false, List, Option, Some, None, refl, sym, ap, subst, ◌∙◌, arith}
 use Rattle.std.specs.Prelude.{nat_le, if◌then◌else◌}
 use Rattle.std.specs.Option.{is_some}
 use Rattle.std.proofs.lemmas.Bool.Decides.{nat_tests}
@@ -8,6 +8,11 @@ use Rattle.event_queue.specs.Queue.{EventList, next_entry, notified}
 use Rattle.event_queue.specs.Timers.{has_moment, moment_ahead}
 use Rattle.rv_step.specs.declared.ends.StepEnd.TheVariants as ends
 use Rattle.rv_step.specs.declared.ends.Trap.{Trap}
+use Rattle.rv_step.specs.Exec.{Outcome, Went, Stored, Stopped}
+use Rattle.address_view.specs.Windows.{see}
+use Rattle.address_view.specs.Stored.{lacks_seen}
+use Rattle.virtual_map.specs.States.{Runtime}
+use Rattle.virtual_map.specs.Instructions.{Carried, carried, comes_to, outcome_of}
 use Rattle.firmware_core.specs.declared.happened.Halt.{Halt}
 use Rattle.firmware_core.specs.declared.happened.Happened.{Happened}
 use Rattle.firmware_core.specs.declared.happened.Happened.TheVariants.{Turned, Halted}
@@ -16,7 +21,7 @@ use Rattle.firmware_core.specs.Frames.{tick_is_due, notice_of, Quiet}
 use Rattle.firmware_core.specs.Turns.{State, Turn, next_turn, turn_of, instruction_turn, halted, trapped, instructed, slot_at, passed, counted}
 use Rattle.firmware_core.specs.Jobs.{counts, joined, steps_left, job_of, JobsAreTurns, Silently, SilentlyTo, goes_on, Says}
 use Rattle.firmware_core.specs.Views.{due, potential}
-use Rattle.firmware_core.proofs.TurnLemmas.{turn_counts, turn_keeps, turn_happens, counts_below, plain_turn, plain_is, trap_is, frames_is}
+use Rattle.firmware_core.proofs.TurnLemmas.{no_moment, gone_quiet, turn_counts, turn_keeps, turn_happens, counts_below, plain_turn, plain_is, trap_is, frames_is}
 
 -- ---- the steps of a turn that the job goes on behind
 
@@ -88,6 +93,7 @@ pub record Silent (old now : State) (step end : ℕ) : Type 0 where
   pub quiet : old.steps < end → Quiet old.firmware (end - old.steps)
   pub events : now.firmware.events ≡ old.firmware.events
   pub level : now.firmware.hart.tpl ≡ old.firmware.hart.tpl
+  pub gone : now.firmware.runtime.gone ≡ old.firmware.runtime.gone
   pub time : now.firmware.time ≤ old.firmware.time + (step - old.steps)
   pub first : step ≡ old.steps → now ≡ old
   pub second : step ≡ old.steps + 1 → record { happened = Turned; state = now } ≡ instruction_turn old
@@ -96,6 +102,23 @@ pub record Silent (old now : State) (step end : ℕ) : Type 0 where
 same_events : (f new : Parts) → record { end = ends.Next; firmware = new } ≡ instructed f → (new.events ≡ f.events) × (new.hart.tpl ≡ f.hart.tpl) × (new.time ≡ f.time)
 unfolding instructed
 same_events f new e = let g = ap (λ i. i.firmware) e in (ap (λ (p : Parts). p.events) g, ap (λ (p : Parts). p.hart.tpl) g, ap (λ (p : Parts). p.time) g)
+
+-- and it leaves whether boot services are over
+abbrev carried_if : Bool → Carried → Carried → Carried
+carried_if b one other = if b then one else other
+
+gone_if : (one other : Carried) (gone : Bool) (b : Bool) → one.runtime.gone ≡ gone → other.runtime.gone ≡ gone → (carried_if b one other).runtime.gone ≡ gone
+gone_if one other gone true h k = h
+gone_if one other gone false h k = k
+
+gone_by : (x : List ℕ) (pc : ℕ) (r : Runtime) (o : Outcome) → (comes_to x pc r o).runtime.gone ≡ r.gone
+gone_by x pc r (Went to) = refl
+gone_by x pc r (Stored at width value to) = gone_if _ _ r.gone (lacks_seen (see r.view) r.memory at width) refl refl
+gone_by x pc r (Stopped trap) = refl
+
+same_gone : (f new : Parts) → record { end = ends.Next; firmware = new } ≡ instructed f → new.runtime.gone ≡ f.runtime.gone
+unfolding instructed carried
+same_gone f new e = ap (λ i. i.firmware.runtime.gone) e ∙ gone_by f.hart.x f.hart.pc f.runtime (outcome_of f.hart.x f.hart.pc f.runtime)
 
 module _ (old now : State) (step end : ℕ) (silent : Silent old now step end) (below : step < end) where
   pub steps_below : now.steps < now.bound
@@ -109,12 +132,19 @@ module _ (old now : State) (step end : ℕ) (silent : Silent old now step end) (
       ap (λ (e : EventList). notified e.events (next_entry e.queue now.firmware.hart.tpl)) silent.events
       ∙ ap (λ tpl. notified old.firmware.events.events (next_entry old.firmware.events.queue tpl)) silent.level ∙ quiet_now.notice
 
-  before_tick : now.firmware.time < moment_ahead old.firmware.events
-  before_tick = let time = silent.time in let since = silent.since in let tick = quiet_now.tick in omega (arith, time, since, tick, below)
+  before_tick : old.firmware.runtime.gone ≡ false → now.firmware.time < moment_ahead old.firmware.events
+  before_tick here = let time = silent.time in let since = silent.since in let tick = quiet_now.tick here in omega (arith, time, since, tick, below)
+
+  no_tick_by : (b : Bool) → old.firmware.runtime.gone ≡ b → tick_is_due now.firmware ≡ false
+  unfolding has_moment
+  no_tick_by true e = gone_quiet now.firmware (silent.gone ∙ e)
+  no_tick_by false e =
+      let b = before_tick e in
+      let is : nat_le (moment_ahead old.firmware.events) now.firmware.time ≡ false = grind (arith, nat_tests) in
+      no_moment now.firmware (ap (λ (e : EventList). nat_le (moment_ahead e) now.firmware.time) silent.events ∙ is)
 
   no_tick : tick_is_due now.firmware ≡ false
-  unfolding has_moment
-  no_tick = let b = before_tick in let is : nat_le (moment_ahead old.firmware.events) now.firmware.time ≡ false = grind (arith, nat_tests) in ap (λ (e : EventList). nat_le (moment_ahead e) now.firmware.time) silent.events ∙ is
+  no_tick = no_tick_by old.firmware.runtime.gone refl
 
   pub goes_silently : (new : Parts) (t : State) → slot_at now.firmware ≡ None → record { end = ends.Next; firmware = new } ≡ instructed now.firmware → t ≡ counted now new → Silent old t (step + 1) end
   goes_silently new t none instructed_now is =
@@ -136,6 +166,7 @@ module _ (old now : State) (step end : ℕ) (silent : Silent old now step end) (
         quiet = silent.quiet;
         events = ap (λ (x : State). x.firmware.events) is ∙ same.0 ∙ silent.events;
         level = ap (λ (x : State). x.firmware.hart.tpl) is ∙ same.1 ∙ silent.level;
+        gone = ap (λ (x : State). x.firmware.runtime.gone) is ∙ same_gone now.firmware new instructed_now ∙ silent.gone;
         time = omega (arith, moment, later, was, time, since);
         first = λ e. (let none : ⊥ = omega arith in absurd none);
         second = λ e. (let is_first : step ≡ old.steps = omega arith in

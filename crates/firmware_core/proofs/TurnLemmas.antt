@@ -1,6 +1,6 @@
 -- Turns that leave the parts, and what a turn counts.
 use Rattle.std.proofs.Common.{◌≡◌, ◌≢◌, ◌⊎◌, inl, inr, ℕ, zero, suc, ◌+◌, ◌≤◌, ◌<◌, ◌-◌, ◌==◌, Bool, true, false, List, Option, Some, None, refl, sym, ap, ◌∙◌, arith}
-use Rattle.std.specs.Prelude.{nat_le, Result, Ok, Err, IfOk, if◌then◌else◌}
+use Rattle.std.specs.Prelude.{◌&&◌, not, nat_le, Result, Ok, Err, IfOk, if◌then◌else◌}
 use Rattle.std.specs.Option.{is_some}
 use Rattle.std.proofs.lemmas.Bool.Decides.{nat_tests}
 use Rattle.rv_step.specs.declared.ends.StepEnd.{StepEnd}
@@ -23,8 +23,9 @@ use Rattle.firmware_core.specs.declared.happened.Halt.{Halt}
 use Rattle.event_queue.specs.declared.event.Entry.{Entry}
 use Rattle.event_queue.specs.declared.event.Event.{Event}
 use Rattle.event_queue.specs.declared.event.Notify.{Notify}
-use Rattle.event_queue.specs.Queue.{notified}
-use Rattle.event_queue.specs.Timers.{has_moment, moment_ahead}
+use Rattle.event_queue.specs.Queue.{EventList, notified}
+use Rattle.event_queue.specs.Timers.{has_moment, moment_ahead, ticked, after_tick}
+use Rattle.event_queue.specs.Laws.{TicksOnce}
 use Rattle.firmware_core.specs.Views.{IsNotice, NoticeTurned}
 use Rattle.firmware_core.specs.Frames.{tick_is_due, with_tick, notice_of, without_notice, is_full, with_notification, Quiet}
 use Rattle.firmware_core.specs.declared.conclusion.Conclusion.{Conclusion}
@@ -60,6 +61,41 @@ trap_ends traps.Ecall pc h = cc
 trap_ends (traps.Fault at access.Load) pc h = cc
 trap_ends (traps.Fault at access.Store) pc h = cc
 trap_ends (traps.Fault at access.Fetch) pc h = cc
+
+-- ---- ticks
+
+also : (a b : Bool) → (a && b) ≡ true → b ≡ true
+also true b h = h
+also false b h = let bad : ⊥ = cc in absurd bad
+
+neither : (a b : Bool) → b ≡ false → (a && b) ≡ false
+neither true b h = h
+neither false b h = refl
+
+-- where a tick is due, there is a moment
+pub due_moment : (f : Parts) → tick_is_due f ≡ true → has_moment f.events f.time ≡ true
+due_moment f h = also (not f.runtime.gone) (has_moment f.events f.time) h
+
+-- while boot services last, there is none where no tick is due
+lasting : (f : Parts) → f.runtime.gone ≡ false → tick_is_due f ≡ false → has_moment f.events f.time ≡ false
+lasting f here h = rw here at h
+
+pub no_moment : (f : Parts) → has_moment f.events f.time ≡ false → tick_is_due f ≡ false
+no_moment f h = neither (not f.runtime.gone) (has_moment f.events f.time) h
+
+-- once they are over, none is due
+pub gone_quiet : (f : Parts) → f.runtime.gone ≡ true → tick_is_due f ≡ false
+gone_quiet f over = rw over refl
+
+ticked_is : (e : EventList) (t : ℕ) → has_moment e t ≡ true → after_tick e t ≡ ticked e t
+unfolding after_tick
+ticked_is e t h = rw h refl
+
+-- behind a tick none is due
+pub none_behind : TicksOnce → (f : Parts) → tick_is_due f ≡ true → tick_is_due (with_tick f) ≡ false
+none_behind once f h =
+    let is = ticked_is f.events f.time (due_moment f h) in
+    no_moment (with_tick f) (ap (λ (e : EventList). has_moment e f.time) (sym is) ∙ once f.events f.time)
 
 -- ---- which turn comes
 
@@ -136,9 +172,13 @@ notice_now s new happened quiet h = notice_by s new happened (sym quiet) (notice
 pub quiet_one : (f : Parts) → false ≡ tick_is_due f → notice_of f ≡ None → Quiet f 1
 unfolding has_moment
 quiet_one f quiet none =
-    let later : nat_le (moment_ahead f.events) f.time ≡ false = sym quiet in
-    let above : f.time < moment_ahead f.events = grind (arith, nat_tests) in
-    record { notice = none; tick = omega (arith, above) }
+    record {
+      notice = none;
+      tick = λ here. (
+          let later : nat_le (moment_ahead f.events) f.time ≡ false = lasting f here (sym quiet) in
+          let above : f.time < moment_ahead f.events = grind (arith, nat_tests) in
+          omega (arith, above));
+    }
 
 pub quiet_now : (s mid : State) → false ≡ tick_is_due s.firmware → NoticeTurned None s mid → Quiet mid.firmware 1
 quiet_now s mid quiet h = let same = h.1 in rw same (quiet_one s.firmware quiet h.0)

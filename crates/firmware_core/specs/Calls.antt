@@ -1,5 +1,5 @@
 -- What a host may do in place of the service of a slot: answer it, or call guest code first.
-use Rattle.std.specs.Prelude.{ℕ, ◌-◌, ◌^◌, min, nat_lt, Bool, true, false, List, length, Option, Some, None, slice_get, slice_set, if◌then◌else◌}
+use Rattle.std.specs.Prelude.{ℕ, ◌-◌, ◌^◌, ◌||◌, min, nat_lt, Bool, true, false, List, length, Option, Some, None, slice_get, slice_set, if◌then◌else◌}
 use Rattle.page_alloc.specs.declared.layout.Layout.{Layout}
 use Rattle.firmware_core.specs.declared.frame.Phase.TheVariants.{Called}
 use Rattle.firmware_core.specs.declared.frame.Purpose.TheVariants.{Call}
@@ -7,13 +7,14 @@ use Rattle.firmware_core.specs.declared.happened.Happened.TheVariants.{Turned}
 use Rattle.firmware_core.specs.declared.conclusion.Conclusion.TheVariants.{Answers}
 use Rattle.firmware_core.specs.Parts.{Parts}
 use Rattle.firmware_core.specs.Frames.{is_full, pushed, aligned_stack, registers_for}
+use Rattle.firmware_core.specs.BootEnd.{exit_address, is_ending}
 use Rattle.firmware_core.specs.Turns.{State, Turn, Next, Tick, Notice, Bound, Slot, Instruction, next_turn, counted, comes_to}
 
 -- ---- the slot that comes next
 
--- A job is under way from the frame of its image on, up to the end of that frame.
+-- A job is under way from the frame of its image on, up to the end of that frame, or where it ends boot services.
 abbrev pub is_under_way : State → Bool
-is_under_way s = nat_lt 0 (length s.firmware.frames)
+is_under_way s = nat_lt 0 (length s.firmware.frames) || is_ending (exit_address s.firmware.runtime.layout) s.firmware.hart
 
 abbrev pub slot_of : Next → Option ℕ
 slot_of Tick = None

@@ -1,5 +1,5 @@
 -- Ticks, the start of notifications and of images, and frames.
-use Rattle.std.specs.Prelude.{ℕ, ◌≡◌, ◌≤◌, ◌+◌, ◌-◌, ◌*◌, ◌%◌, nat_le, Bool, List, [], ◌∷◌, ◌++◌, length, take, replicate, Option, None, slice_get, slice_index, slice_set}
+use Rattle.std.specs.Prelude.{ℕ, ◌≡◌, ◌≤◌, ◌+◌, ◌-◌, ◌*◌, ◌%◌, ◌&&◌, not, nat_le, Bool, false, List, [], ◌∷◌, ◌++◌, length, take, replicate, Option, None, slice_get, slice_index, slice_set}
 use Rattle.page_alloc.specs.declared.layout.Layout.{Layout}
 use Rattle.event_queue.specs.declared.event.Notify.{Notify}
 use Rattle.event_queue.specs.Queue.{next_entry, notified, after_next}
@@ -14,9 +14,9 @@ use Rattle.firmware_core.specs.Parts.{Parts}
 
 -- ---- ticks
 
--- A tick moment lies above the last tick and at most at the present.
+-- While boot services last: a tick moment lies above the last tick and at most at the present.
 abbrev pub tick_is_due : Parts → Bool
-tick_is_due f = has_moment f.events f.time
+tick_is_due f = not f.runtime.gone && has_moment f.events f.time
 
 -- Each timer that is due signals its event.
 abbrev pub with_tick : Parts → Parts
@@ -81,7 +81,7 @@ with_notification f n = pushed f Notification (record { x = registers_for f.runt
 
 -- ---- what is known ahead
 
--- Neither a notification comes, nor a tick for so many units of time.
+-- Neither a notification comes, nor a tick for so many units of time. Once boot services are over, no tick comes at all.
 pub record Quiet (f : Parts) (units : ℕ) : Type 0 where
   pub notice : notice_of f ≡ None
-  pub tick : f.time + units ≤ moment_ahead f.events
+  pub tick : f.runtime.gone ≡ false → f.time + units ≤ moment_ahead f.events

@@ -18,6 +18,7 @@ use Rattle.firmware_core.specs.declared.conclusion.Conclusion.TheVariants.{Answe
 use Rattle.firmware_core.specs.Parts.{Parts}
 use Rattle.firmware_core.specs.Frames.{is_full, top_of, aligned_stack, with_image}
 use Rattle.firmware_core.specs.Services.{Concluded, given, store_of, with_store, without_image, announced, top_ended}
+use Rattle.firmware_core.specs.BootEnd.{at_exit_boot_services}
 
 -- ---- loading
 
@@ -80,10 +81,12 @@ image_service_of slot =
     else (if slot == 23 then Some services.StartImage
     else (if slot == 24 then Some services.Exit
     else (if slot == 25 then Some services.UnloadImage
-    else None)))
+    else (if slot == 26 then Some services.ExitBootServices
+    else None))))
 
 unfoldable pub serve_image : ImageService → Parts → Concluded
 serve_image services.LoadImage f = at_load_image f
 serve_image services.StartImage f = at_start_image f
 serve_image services.Exit f = at_exit f
 serve_image services.UnloadImage f = at_unload_image f
+serve_image services.ExitBootServices f = at_exit_boot_services f

@@ -2,7 +2,8 @@
 use Rattle.std.specs.Prelude.{ℕ, zero, suc, ◌≡◌, ◌≢◌, ◌-◌, ◌<◌, ◌≤◌, List, [], ◌∷◌, length, Bool, true, false, Option, Some, None, if◌then◌else◌}
 use Rattle.record_text.specs.declared.line.Line.{Line}
 use Rattle.record_text.specs.declared.cause.Cause.TheVariants as causes
-use Rattle.event_queue.specs.Timers.{after_tick}
+use Rattle.event_queue.specs.Queue.{EventList}
+use Rattle.event_queue.specs.Timers.{ticked}
 use Rattle.image_services.specs.Images.{Loaded, find_image}
 use Rattle.firmware_core.specs.declared.frame.Purpose.TheVariants as purposes
 use Rattle.firmware_core.specs.declared.happened.Happened.{Happened}
@@ -11,7 +12,8 @@ use Rattle.firmware_core.specs.declared.happened.JobEnd.{JobEnd}
 use Rattle.firmware_core.specs.declared.happened.JobEnd.TheVariants as ends
 use Rattle.firmware_core.specs.declared.job.Job as declared
 use Rattle.firmware_core.specs.declared.job.Job.TheVariants.{Start}
-use Rattle.firmware_core.specs.Frames.{with_image}
+use Rattle.firmware_core.specs.Parts.{Parts}
+use Rattle.firmware_core.specs.Frames.{tick_is_due, with_image}
 use Rattle.firmware_core.specs.Turns.{State, Turn, Next, Tick, Notice, Bound, Slot, Instruction, next_turn, turn_of}
 
 -- ---- the beginning
@@ -34,8 +36,11 @@ abbrev pub start_at : State → ℕ → ℕ → Option ℕ → Begun
 start_at s handle bound None = record { begins = false; state = s }
 start_at s handle bound (Some entry) = record { begins = true; state = started s handle entry bound }
 
+-- Once boot services are over, none begins. (UEFI 2.10, 7.4.6: ExitBootServices)
 unfoldable pub begun : State → declared.Job → Begun
-begun s (Start handle bound) = start_at s handle bound (fresh_entry (find_image s.firmware.images handle))
+begun s (Start handle bound) =
+    if s.firmware.runtime.gone then record { begins = false; state = s }
+    else start_at s handle bound (fresh_entry (find_image s.firmware.images handle))
 
 -- ---- turns that count no step
 
@@ -56,9 +61,13 @@ unfoldable pub uncounted : ℕ → State → Turn
 uncounted zero s = record { happened = Turned; state = s }
 uncounted (suc more) s = if counts (next_turn s) then record { happened = Turned; state = s } else or_next (turn_of s) (turn_of s).happened (uncounted more (turn_of s).state)
 
+-- the events behind the tick that is due, if one is
+abbrev pub events_behind : Parts → EventList
+events_behind f = if tick_is_due f then ticked f.events f.time else f.events
+
 -- There is one tick at most, and each notification that starts leaves the queue.
 abbrev pub most_uncounted : State → ℕ
-most_uncounted s = suc (length (after_tick s.firmware.events s.firmware.time).queue)
+most_uncounted s = suc (length (events_behind s.firmware).queue)
 
 unfoldable pub settled : State → Turn
 settled s = uncounted (most_uncounted s) s

@@ -4,6 +4,7 @@ pub mod Opening
 pub mod Frames
 pub mod Services
 pub mod EventSlots
+pub mod BootEnd
 pub mod ImageSlots
 pub mod Slots
 pub mod Turns
@@ -11,4 +12,5 @@ pub mod Calls
 pub mod Jobs
 pub mod Runs
 pub mod Loads
+pub mod ExitSteps
 pub mod Views

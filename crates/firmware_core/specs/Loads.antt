@@ -1,7 +1,9 @@
 -- The load of an image into a machine, and its unload.
-use Rattle.std.specs.Prelude.{ℕ, List, Option, Some, None, Result, Ok, Err, if◌then◌else◌}
+use Rattle.std.specs.Prelude.{ℕ, ◌==◌, Bool, List, is_some, Option, Some, None, Result, Ok, Err, if◌then◌else◌}
+use Rattle.std.specs.List.{list_any}
 use Rattle.uh_base.specs.Statuses.{success, unsupported}
 use Rattle.event_queue.specs.Queue.{signal_each}
+use Rattle.map_faults.specs.Grounds.{Kept}
 use Rattle.image_services.specs.declared.refusal.LoadRefusal.{LoadRefusal}
 use Rattle.image_services.specs.Images.{Loaded, find_image}
 use Rattle.image_services.specs.Stores.{Store}
@@ -59,3 +61,11 @@ unloaded_at_boot s handle = unload_comes_to s (calls.unloaded_to (store_of s.fir
 -- Once boot services are over, none is unloaded.
 unfoldable pub unloaded : State → ℕ → UnloadDone
 unloaded s handle = if s.firmware.runtime.gone then record { status = unsupported; state = s } else unloaded_at_boot s handle
+
+-- an image that was kept has a handle
+abbrev pub is_of : ℕ → Kept → Bool
+is_of handle kept = kept.handle == handle
+
+-- whether an image has a handle: while boot services last one that is loaded, and then one that was kept
+abbrev pub has_image : Parts → ℕ → Bool
+has_image f handle = if f.runtime.gone then list_any (is_of handle) f.runtime.kept else is_some (find_image f.images handle)

@@ -14,6 +14,7 @@ use Rattle.memory_services.specs.MapService.{get_memory_map}
 use Rattle.memory_services.specs.Copies.{calculate_crc32, copy_mem, set_mem}
 use Rattle.console_services.specs.Console as console
 use Rattle.console_services.specs.Console.{Reply, output_string, test_string, set_mode}
+use Rattle.console_services.specs.Modes.{query_mode}
 use Rattle.service_answer.specs.Answers as service
 use Rattle.event_queue.specs.Queue.{signal_each}
 use Rattle.protocol_services.specs.Services.{serve_protocol}
@@ -99,6 +100,10 @@ at_output_string f = record { conclusion = replied (output_string f.runtime.view
 unfoldable pub at_test_string : Parts → Concluded
 at_test_string f = record { conclusion = Answers (test_string f.runtime.view f.runtime.memory (given 1 f)); firmware = f }
 
+unfoldable pub at_query_mode : Parts → Concluded
+at_query_mode f =
+    let done = query_mode f.hart.x (see f.runtime.view) f.runtime.memory in record { conclusion = conclusion_of done.answer; firmware = with_memory f done.memory }
+
 abbrev pub at_set_mode : Parts → Concluded
 at_set_mode f = record { conclusion = Answers (set_mode (given 1 f)); firmware = f }
 
@@ -150,8 +155,9 @@ goes status (Some image) = not (stays image.subsystem status)
 abbrev pub without_image : Parts → ℕ → Parts
 without_image f handle = with_store f (discarded (store_of f) handle)
 
+-- Once boot services are over, none is unloaded. (UEFI 2.10, 7.4.6: ExitBootServices)
 abbrev pub image_ended : Parts → ℕ → ℕ → Parts
-image_ended f handle status = if goes status (find_image f.images handle) then without_image f handle else f
+image_ended f handle status = if not f.runtime.gone && goes status (find_image f.images handle) then without_image f handle else f
 
 -- the level as it was at the frame's start
 abbrev pub with_level : Parts → ℕ → Parts

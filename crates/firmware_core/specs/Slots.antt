@@ -10,7 +10,7 @@ use Rattle.firmware_core.specs.declared.event_service.EventService.{EventService
 use Rattle.firmware_core.specs.declared.image_service.ImageService.{ImageService}
 use Rattle.firmware_core.specs.declared.conclusion.Conclusion.TheVariants.{Answers, Halts}
 use Rattle.firmware_core.specs.Parts.{Parts}
-use Rattle.firmware_core.specs.Services.{Concluded, at_allocate_pages, at_free_pages, at_get_memory_map, at_allocate_pool, at_free_pool, at_calculate_crc32, at_copy_mem, at_set_mem, at_output_string, at_test_string, at_set_mode, at_protocols, at_runtime, at_reset, at_return}
+use Rattle.firmware_core.specs.Services.{Concluded, at_allocate_pages, at_free_pages, at_get_memory_map, at_allocate_pool, at_free_pool, at_calculate_crc32, at_copy_mem, at_set_mem, at_output_string, at_test_string, at_query_mode, at_set_mode, at_protocols, at_runtime, at_reset, at_return}
 use Rattle.firmware_core.specs.EventSlots.{event_service_of, serve_event}
 use Rattle.firmware_core.specs.ImageSlots.{image_service_of, serve_image}
 
@@ -27,6 +27,7 @@ service_of slot =
     else (if slot == 42 then services.SetMem
     else (if slot == 59 then services.OutputString
     else (if slot == 60 then services.TestString
+    else (if slot == 61 then services.QueryMode
     else (if slot == 62 then services.SetMode
     else (if slot == 58 then services.Screen
     else (if slot == 63 then services.Screen
@@ -35,7 +36,7 @@ service_of slot =
     else (if slot == 66 then services.Screen
     else (if slot == 54 then services.Reset
     else (if slot == 67 then services.Return
-    else services.Unbuilt)))))))))))))))))
+    else services.Unbuilt))))))))))))))))))
 
 -- What changes a screen alone is answered with success, since a run shows none. A service that isn't built is unsupported.
 unfoldable pub serve : Service → Parts → Concluded
@@ -49,6 +50,7 @@ serve services.CopyMem f = at_copy_mem f
 serve services.SetMem f = at_set_mem f
 serve services.OutputString f = at_output_string f
 serve services.TestString f = at_test_string f
+serve services.QueryMode f = at_query_mode f
 serve services.SetMode f = at_set_mode f
 serve services.Screen f = record { conclusion = Answers success; firmware = f }
 serve services.Reset f = at_reset f

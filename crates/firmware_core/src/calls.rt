@@ -1,9 +1,11 @@
 //! What a host may do in place of the service of a slot.
-ghost use Rattle.std.specs.Prelude.{◌≡◌, ◌≤◌, ◌<◌, length, true, is_some, IfOk, IfSome, OnOk};
+ghost use Rattle.std.specs.Prelude.{◌≡◌, ◌≤◌, ◌<◌, ◌||◌, not, nat_lt, length, true, is_some, IfOk, IfSome, OnOk};
 ghost use Rattle.firmware_core.specs.Frames.{aligned_stack};
+ghost use Rattle.firmware_core.specs.BootEnd.{exit_address, is_ending};
 ghost use Rattle.firmware_core.specs.Turns.{counted_next, next_turn};
 ghost use Rattle.firmware_core.specs.Calls.{slot_of, pending_slot, slot_answered, call_argument, call_registers, with_call, call_begun, without_returned, frame_count};
 
+use crate::boot_end::exit_address;
 use crate::conclusion::Conclusion;
 use crate::firmware::Firmware;
 use crate::frame::{Hart, Phase, Purpose};
@@ -57,6 +59,17 @@ impl Firmware {
     }
 }
 
+impl Firmware {
+    /// Whether no job is under way: no frame stands, and boot services aren't being ended.
+    fn is_idle(&self) -> bool
+        ensures { result ≡ not (nat_lt 0 (length self.now.frames) || is_ending (exit_address self.now.runtime.layout) self.now.hart) }
+    {
+        self.whole();
+        let runtime = &self.runtime;
+        self.frames.is_empty() && !self.hart.is_ending(exit_address(&runtime.layout))
+    }
+}
+
 impl Machine {
     /// The slot whose service comes, unless the bound is reached.
     fn counted_slot(&self) -> Option<u8>
@@ -93,7 +106,7 @@ impl Machine {
         ensures slot { result ≡ pending_slot self.now }
         ensures below { IfSome result (λ slot. self.now.steps < self.now.bound) }
     {
-        if self.firmware.frames.is_empty() {
+        if self.firmware.is_idle() {
             None
         } else {
             self.next_slot()

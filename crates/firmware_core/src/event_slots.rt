@@ -43,6 +43,7 @@ impl Firmware {
         }
     }
 
+    /// RaiseTPL (UEFI 2.10, 7.1.8).
     #[tactic(auto, unfolding(crate::specs::EventSlots::at_raise_tpl))]
     fn at_raise_tpl(&mut self) -> Conclusion
         ensures { record { conclusion = result; firmware = self.new } ≡ at_raise_tpl self.old }
@@ -52,6 +53,7 @@ impl Firmware {
         self.set_level(set)
     }
 
+    /// RestoreTPL (UEFI 2.10, 7.1.9).
     #[tactic(auto, unfolding(crate::specs::EventSlots::at_restore_tpl))]
     fn at_restore_tpl(&mut self) -> Conclusion
         ensures { record { conclusion = result; firmware = self.new } ≡ at_restore_tpl self.old }
@@ -61,6 +63,7 @@ impl Firmware {
         self.set_level(set)
     }
 
+    /// CreateEvent (UEFI 2.10, 7.1.1).
     #[tactic(auto, unfolding(crate::specs::EventSlots::at_create_event))]
     fn at_create_event(&mut self, alloc: Global) -> Result<Conclusion, AllocError>
         ensures { IfOk result (λ c. record { conclusion = c; firmware = self.new } ≡ at_create_event self.old) }
@@ -74,6 +77,7 @@ impl Firmware {
         Ok(served(&answer))
     }
 
+    /// CreateEventEx (UEFI 2.10, 7.1.2).
     #[tactic(auto, unfolding(crate::specs::EventSlots::at_create_event_ex))]
     fn at_create_event_ex(&mut self, alloc: Global) -> Result<Conclusion, AllocError>
         ensures { IfOk result (λ c. record { conclusion = c; firmware = self.new } ≡ at_create_event_ex self.old) }
@@ -87,6 +91,7 @@ impl Firmware {
         Ok(served(&answer))
     }
 
+    /// SetTimer (UEFI 2.10, 7.1.7).
     #[tactic(auto, unfolding(crate::specs::EventSlots::at_set_timer))]
     fn at_set_timer(&mut self, alloc: Global) -> Conclusion
         ensures { record { conclusion = result; firmware = self.new } ≡ at_set_timer self.old }
@@ -95,6 +100,7 @@ impl Firmware {
         served(&set_timer(alloc, &regs.x, self.time, &mut self.events))
     }
 
+    /// SignalEvent (UEFI 2.10, 7.1.4).
     #[tactic(auto, unfolding(crate::specs::EventSlots::at_signal_event))]
     fn at_signal_event(&mut self, alloc: Global) -> Conclusion
         ensures { record { conclusion = result; firmware = self.new } ≡ at_signal_event self.old }
@@ -103,6 +109,7 @@ impl Firmware {
         served(&signal_event(alloc, &regs.x, &mut self.events))
     }
 
+    /// CloseEvent (UEFI 2.10, 7.1.3).
     #[tactic(auto, unfolding(crate::specs::EventSlots::at_close_event))]
     fn at_close_event(&mut self, alloc: Global) -> Conclusion
         ensures { record { conclusion = result; firmware = self.new } ≡ at_close_event self.old }
@@ -112,6 +119,7 @@ impl Firmware {
         served(&close_event(alloc, &regs.x, &mut self.events, protocols))
     }
 
+    /// RegisterProtocolNotify (UEFI 2.10, 7.3.5).
     #[tactic(auto, unfolding(crate::specs::EventSlots::at_register_protocol_notify))]
     fn at_register_protocol_notify(&mut self, alloc: Global) -> Result<Conclusion, AllocError>
         ensures { IfOk result (λ c. record { conclusion = c; firmware = self.new } ≡ at_register_protocol_notify self.old) }
@@ -148,6 +156,7 @@ impl Firmware {
         }
     }
 
+    /// CheckEvent (UEFI 2.10, 7.1.6).
     #[tactic(auto, unfolding(crate::specs::EventSlots::at_check_event))]
     fn at_check_event(&mut self) -> Conclusion
         ensures { record { conclusion = result; firmware = self.new } ≡ at_check_event self.old }
@@ -202,6 +211,7 @@ impl Firmware {
         Ok(self.set_phase(Phase::Renewed, answer))
     }
 
+    /// WaitForEvent (UEFI 2.10, 7.1.5).
     #[tactic(auto, unfolding(crate::specs::EventSlots::at_wait_for_event))]
     fn at_wait_for_event(&mut self) -> Result<Conclusion, AllocError>
         ensures { IfOk result (λ c. record { conclusion = c; firmware = self.new } ≡ at_wait_for_event self.old) }
@@ -213,6 +223,7 @@ impl Firmware {
         }
     }
 
+    /// Stall (UEFI 2.10, 7.5.2).
     #[tactic(auto, unfolding(crate::specs::EventSlots::at_stall))]
     fn at_stall(&mut self, alloc: Global) -> Conclusion
         ensures { record { conclusion = result; firmware = self.new } ≡ at_stall self.old }

@@ -220,7 +220,7 @@ impl Firmware {
     pub(crate) fn tick_is_due(&self) -> bool
         ensures { result ≡ tick_is_due self.now }
     {
-        self.events.has_tick(self.time)
+        !self.runtime.gone && self.events.has_tick(self.time)
     }
 
     /// The tick that is due.

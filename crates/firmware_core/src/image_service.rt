@@ -9,6 +9,7 @@ pub enum ImageService {
     StartImage,
     Exit,
     UnloadImage,
+    ExitBootServices,
 }
 
 /// The service on images of a slot.
@@ -21,6 +22,7 @@ pub(crate) fn image_service_of(slot: u8) -> Option<ImageService>
         23 => Some(ImageService::StartImage),
         24 => Some(ImageService::Exit),
         25 => Some(ImageService::UnloadImage),
+        26 => Some(ImageService::ExitBootServices),
         _ => None,
     }
 }

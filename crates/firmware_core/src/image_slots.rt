@@ -25,6 +25,7 @@ fn image_of(purpose: Purpose) -> Option<u64>
 }
 
 impl Firmware {
+    /// LoadImage (UEFI 2.10, 7.4.1).
     #[tactic(auto, unfolding(crate::specs::ImageSlots::at_load_image))]
     fn at_load_image(&mut self, alloc: Global) -> Result<Conclusion, AllocError>
         ensures { IfOk result (λ c. record { conclusion = c; firmware = self.new } ≡ at_load_image self.old) }
@@ -50,6 +51,7 @@ impl Firmware {
         Ok(self.announce(&answer))
     }
 
+    /// UnloadImage (UEFI 2.10, 7.4.3).
     #[tactic(auto, unfolding(crate::specs::ImageSlots::at_unload_image))]
     fn at_unload_image(&mut self) -> Conclusion
         ensures { record { conclusion = result; firmware = self.new } ≡ at_unload_image self.old }
@@ -89,6 +91,7 @@ impl Firmware {
         }
     }
 
+    /// StartImage (UEFI 2.10, 7.4.2).
     #[tactic(auto, unfolding(crate::specs::ImageSlots::at_start_image))]
     fn at_start_image(&mut self) -> Result<Conclusion, AllocError>
         ensures { IfOk result (λ c. record { conclusion = c; firmware = self.new } ≡ at_start_image self.old) }
@@ -134,6 +137,7 @@ impl Firmware {
         }
     }
 
+    /// Exit (UEFI 2.10, 7.4.5).
     #[tactic(auto, unfolding(crate::specs::ImageSlots::at_exit))]
     fn at_exit(&mut self, alloc: Global) -> Result<Conclusion, AllocError>
         ensures { IfOk result (λ c. record { conclusion = c; firmware = self.new } ≡ at_exit self.old) }
@@ -157,6 +161,7 @@ impl Firmware {
             ImageService::StartImage => self.at_start_image(),
             ImageService::Exit => self.at_exit(alloc),
             ImageService::UnloadImage => Ok(self.at_unload_image()),
+            ImageService::ExitBootServices => self.at_exit_boot_services(alloc),
         }
     }
 }

@@ -56,20 +56,25 @@ impl Firmware {
     }
 }
 
-/// Begins a job. False where its image isn't loaded or was started before; then nothing changes. After want of memory the
+/// Begins a job. False where its image isn't loaded or was started before, or boot services are over; then nothing changes. After want of memory the
 /// machine may only be dropped.
 #[tactic(auto, unfolding(crate::specs::Jobs::begun))]
 pub fn begin(machine: &mut Machine, job: &Job) -> Result<bool, AllocError>
     ensures { IfOk result (λ begins. record { begins = begins; state = machine.new } ≡ begun machine.old job.now) }
 {
     match job {
-        Job::Start { handle, bound } => match machine.firmware.fresh_entry(*handle) {
-            Some(entry) => {
-                machine.start(*handle, entry, *bound)?;
-                Ok(true)
+        Job::Start { handle, bound } => {
+            if machine.firmware.runtime.gone {
+                return Ok(false);
             }
-            None => Ok(false),
-        },
+            match machine.firmware.fresh_entry(*handle) {
+                Some(entry) => {
+                    machine.start(*handle, entry, *bound)?;
+                    Ok(true)
+                }
+                None => Ok(false),
+            }
+        }
     }
 }
 

@@ -4,10 +4,12 @@
 //! its slot, or one instruction.
 #![tactic(auto)]
 
+mod boot_end;
 mod calls;
 mod conclusion;
 mod event_service;
 mod event_slots;
+mod exit_step;
 mod firmware;
 mod frame;
 mod happened;

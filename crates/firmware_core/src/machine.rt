@@ -1,17 +1,19 @@
 //! The machine.
 ghost use Rattle.std.specs.Prelude.{◌≡◌, ◌≤◌, IfOk};
-ghost use Rattle.std.specs.Option.{is_some};
+ghost use Rattle.std.specs.List.{list_any};
 ghost use Rattle.page_alloc.specs.Layout.{IsRam};
 ghost use Rattle.event_queue.specs.Queue.{Whole};
-ghost use Rattle.image_services.specs.Images.{find_image};
+ghost use Rattle.firmware_core.specs.Loads.{has_image, is_of};
 ghost use Rattle.firmware_core.specs.Opening.{opened};
 
 use crate::firmware::Firmware;
+use map_faults::Kept;
 use page_alloc::PageMap;
 use std::alloc::{AllocError, Global};
 use std::marker::Model;
 use time_service::Clock;
 use variable_store::Variables;
+use virtual_map::RuntimeState;
 
 /// What a machine begins with.
 #[derive(Drop)]
@@ -52,6 +54,13 @@ impl Model for Machine {
     ghost invariant = { λ m. m.steps ≤ m.bound };
 }
 
+/// Whether one of the images that were kept has a handle.
+fn is_kept(kept: &[Kept], handle: u64) -> bool
+    ensures { result ≡ list_any (is_of handle) kept.now }
+{
+    kept.iter().any(|image| image.handle == handle)
+}
+
 impl Machine {
     /// The machine at opening. No job is under way.
     pub fn new(alloc: Global, setup: Setup) -> Result<Machine, AllocError>
@@ -89,11 +98,30 @@ impl Machine {
         self.firmware.events.whole();
     }
 
-    /// Whether an image is loaded, by its handle.
+    /// Whether an image is loaded, by its handle; once boot services are over, whether it was kept.
     pub fn has_image(&self, handle: u64) -> bool
-        ensures { result ≡ is_some (find_image self.now.firmware.images handle) }
+        ensures { result ≡ has_image self.now.firmware handle }
     {
-        self.firmware.images.find(handle).is_some()
+        let runtime = &self.firmware.runtime;
+        if runtime.gone {
+            is_kept(runtime.kept.as_slice(), handle)
+        } else {
+            self.firmware.images.find(handle).is_some()
+        }
+    }
+
+    /// The variables.
+    pub fn variables(&self) -> &Variables
+        ensures { result.now ≡ self.now.firmware.variables }
+    {
+        &self.firmware.variables
+    }
+
+    /// The runtime state: memory, its use and its view, and what outlives boot services.
+    pub fn runtime(&self) -> &RuntimeState
+        ensures { result.now ≡ self.now.firmware.runtime }
+    {
+        &self.firmware.runtime
     }
 
     /// The memory map.

@@ -1,5 +1,5 @@
 //! Plain instructions, one after another.
-ghost use Rattle.std.specs.Prelude.{◌≡◌, ◌≤◌, ◌<◌, ◌+◌, ◌-◌, OnOk, IfOk, None};
+ghost use Rattle.std.specs.Prelude.{◌≡◌, ◌≤◌, ◌<◌, ◌+◌, ◌-◌, OnOk, IfOk, None, false};
 ghost use Rattle.event_queue.specs.Timers.{moment_ahead};
 ghost use Rattle.firmware_core.specs.declared.happened.Happened.TheVariants as happens;
 ghost use Rattle.firmware_core.specs.Turns.{slot_at, trapped, instruction_turn};
@@ -34,8 +34,11 @@ fn halt_by(trap: Trap, pc: u64) -> Halt
 impl Firmware {
     /// How many units of time there surely are before the next tick.
     fn units_to_tick(&self) -> u64
-        ensures { 0 < result → self.now.time + result ≤ moment_ahead self.now.events }
+        ensures { 0 < result → self.now.runtime.gone ≡ false → self.now.time + result ≤ moment_ahead self.now.events }
     {
+        if self.runtime.gone {
+            return u64::MAX;
+        }
         match self.events.tick_moment() {
             Some(moment) => moment.saturating_sub(self.time),
             None => u64::MAX - self.time,

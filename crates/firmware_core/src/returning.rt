@@ -56,7 +56,7 @@ impl Firmware {
     fn end_image(&mut self, handle: u64, status: u64)
         ensures { self.new ≡ image_ended self.old handle status }
     {
-        if self.goes(status, handle) {
+        if !self.runtime.gone && self.goes(status, handle) {
             self.unload(handle);
         }
     }

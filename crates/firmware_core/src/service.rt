@@ -15,6 +15,7 @@ pub enum Service {
     SetMem,
     OutputString,
     TestString,
+    QueryMode,
     SetMode,
     /// What changes a screen alone: Reset, SetAttribute, ClearScreen, SetCursorPosition, EnableCursor.
     Screen,
@@ -42,6 +43,7 @@ pub(crate) fn service_of(slot: u8) -> Service
         42 => Service::SetMem,
         59 => Service::OutputString,
         60 => Service::TestString,
+        61 => Service::QueryMode,
         62 => Service::SetMode,
         58 => Service::Screen,
         63 => Service::Screen,

@@ -4,12 +4,12 @@ ghost use Rattle.guest_call.specs.declared.answer.Answer.{Answer};
 ghost use Rattle.console_services.specs.Views.{reply_of};
 ghost use Rattle.protocol_services.specs.Services.{is_protocol_slot};
 ghost use Rattle.runtime_services.specs.Slots.{service_of as runtime_service_of};
-ghost use Rattle.firmware_core.specs.Services.{conclusion_of, replied, given, at_allocate_pages, at_free_pages, at_get_memory_map, at_allocate_pool, at_free_pool, at_calculate_crc32, at_copy_mem, at_set_mem, at_output_string, at_test_string, at_set_mode, served, announced, at_protocols, at_runtime, at_reset};
+ghost use Rattle.firmware_core.specs.Services.{conclusion_of, replied, given, at_allocate_pages, at_free_pages, at_get_memory_map, at_allocate_pool, at_free_pool, at_calculate_crc32, at_copy_mem, at_set_mem, at_output_string, at_test_string, at_query_mode, at_set_mode, served, announced, at_protocols, at_runtime, at_reset};
 
 use crate::conclusion::Conclusion;
 use crate::firmware::Firmware;
 use address_view::CodePage;
-use console_services::{Reply, output_string, set_mode, test_string};
+use console_services::{Reply, output_string, query_mode, set_mode, test_string};
 use guest_call::{Answer, argument, low_word};
 use memory_services::{
     allocate_pages, allocate_pool, calculate_crc32, copy_mem, free_pages, free_pool,
@@ -61,6 +61,7 @@ impl Firmware {
         argument(n, &self.hart.regs.x)
     }
 
+    /// AllocatePages (UEFI 2.10, 7.2.1).
     #[tactic(auto, unfolding(crate::specs::Services::at_allocate_pages))]
     pub(crate) fn at_allocate_pages(&mut self) -> Result<Conclusion, AllocError>
         ensures { IfOk result (λ c. record { conclusion = c; firmware = self.new } ≡ at_allocate_pages self.old) }
@@ -79,6 +80,7 @@ impl Firmware {
         Ok(conclusion_of(answer))
     }
 
+    /// FreePages (UEFI 2.10, 7.2.2).
     #[tactic(auto, unfolding(crate::specs::Services::at_free_pages))]
     pub(crate) fn at_free_pages(&mut self) -> Conclusion
         ensures { record { conclusion = result; firmware = self.new } ≡ at_free_pages self.old }
@@ -91,6 +93,7 @@ impl Firmware {
         Conclusion::Answers(free_pages(&regs.x, &mut runtime.memory, &mut runtime.pages))
     }
 
+    /// GetMemoryMap (UEFI 2.10, 7.2.3).
     #[tactic(auto, unfolding(crate::specs::Services::at_get_memory_map))]
     pub(crate) fn at_get_memory_map(&mut self) -> Result<Conclusion, AllocError>
         ensures { IfOk result (λ c. record { conclusion = c; firmware = self.new } ≡ at_get_memory_map self.old) }
@@ -103,6 +106,7 @@ impl Firmware {
         Ok(conclusion_of(answer))
     }
 
+    /// AllocatePool (UEFI 2.10, 7.2.4).
     #[tactic(auto, unfolding(crate::specs::Services::at_allocate_pool))]
     pub(crate) fn at_allocate_pool(&mut self) -> Result<Conclusion, AllocError>
         ensures { IfOk result (λ c. record { conclusion = c; firmware = self.new } ≡ at_allocate_pool self.old) }
@@ -122,6 +126,7 @@ impl Firmware {
         Ok(conclusion_of(answer))
     }
 
+    /// FreePool (UEFI 2.10, 7.2.5).
     #[tactic(auto, unfolding(crate::specs::Services::at_free_pool))]
     pub(crate) fn at_free_pool(&mut self) -> Conclusion
         ensures { record { conclusion = result; firmware = self.new } ≡ at_free_pool self.old }
@@ -134,6 +139,7 @@ impl Firmware {
         Conclusion::Answers(free_pool(&regs.x, &mut runtime.memory, &mut runtime.pages, pool))
     }
 
+    /// CalculateCrc32 (UEFI 2.10, 7.5.7).
     #[tactic(auto, unfolding(crate::specs::Services::at_calculate_crc32))]
     pub(crate) fn at_calculate_crc32(&mut self, alloc: Global) -> Result<Conclusion, AllocError>
         ensures { IfOk result (λ c. record { conclusion = c; firmware = self.new } ≡ at_calculate_crc32 self.old) }
@@ -146,6 +152,7 @@ impl Firmware {
         Ok(conclusion_of(answer))
     }
 
+    /// CopyMem (UEFI 2.10, 7.5.3).
     #[tactic(auto, unfolding(crate::specs::Services::at_copy_mem))]
     pub(crate) fn at_copy_mem(&mut self, alloc: Global) -> Result<Conclusion, AllocError>
         ensures { IfOk result (λ c. record { conclusion = c; firmware = self.new } ≡ at_copy_mem self.old) }
@@ -158,6 +165,7 @@ impl Firmware {
         Ok(conclusion_of(answer))
     }
 
+    /// SetMem (UEFI 2.10, 7.5.4).
     #[tactic(auto, unfolding(crate::specs::Services::at_set_mem))]
     pub(crate) fn at_set_mem(&mut self, alloc: Global) -> Result<Conclusion, AllocError>
         ensures { IfOk result (λ c. record { conclusion = c; firmware = self.new } ≡ at_set_mem self.old) }
@@ -170,6 +178,7 @@ impl Firmware {
         Ok(conclusion_of(answer))
     }
 
+    /// OutputString of the console (UEFI 2.10, 12.4.3).
     #[tactic(auto, unfolding(crate::specs::Services::at_output_string))]
     pub(crate) fn at_output_string(&self, alloc: Global) -> Result<Conclusion, AllocError>
         ensures { IfOk result (λ c. record { conclusion = c; firmware = self.now } ≡ at_output_string self.now) }
@@ -183,6 +192,7 @@ impl Firmware {
         Ok(replied(reply))
     }
 
+    /// TestString of the console (UEFI 2.10, 12.4.4).
     #[tactic(auto, unfolding(crate::specs::Services::at_test_string))]
     pub(crate) fn at_test_string(&self, alloc: Global) -> Result<Conclusion, AllocError>
         ensures { IfOk result (λ c. record { conclusion = c; firmware = self.now } ≡ at_test_string self.now) }
@@ -196,6 +206,20 @@ impl Firmware {
         Ok(Conclusion::Answers(status.0))
     }
 
+    /// QueryMode of the console (UEFI 2.10, 12.4.5).
+    #[tactic(auto, unfolding(crate::specs::Services::at_query_mode))]
+    pub(crate) fn at_query_mode(&mut self) -> Result<Conclusion, AllocError>
+        ensures { IfOk result (λ c. record { conclusion = c; firmware = self.new } ≡ at_query_mode self.old) }
+    {
+        self.whole();
+        self.code = CodePage::none();
+        let regs = &self.hart.regs;
+        let runtime = &mut self.runtime;
+        let answer = query_mode(&regs.x, &runtime.view, &mut runtime.memory)?;
+        Ok(conclusion_of(answer))
+    }
+
+    /// SetMode of the console (UEFI 2.10, 12.4.6).
     pub(crate) fn at_set_mode(&self) -> Conclusion
         ensures { record { conclusion = result; firmware = self.now } ≡ at_set_mode self.now }
     {
@@ -211,6 +235,7 @@ impl Firmware {
         served(answer)
     }
 
+    /// A service on handles and protocols (UEFI 2.10, 7.3).
     #[tactic(auto, unfolding(crate::specs::Services::at_protocols))]
     pub(crate) fn at_protocols(&mut self, alloc: Global, slot: u8) -> Result<Conclusion, AllocError>
         requires { is_protocol_slot slot ≡ true }
@@ -235,6 +260,7 @@ impl Firmware {
         Ok(self.announce(&answer))
     }
 
+    /// A runtime service (UEFI 2.10, 8).
     #[tactic(auto, unfolding(crate::specs::Services::at_runtime))]
     pub(crate) fn at_runtime(&mut self, alloc: Global, slot: u8) -> Result<Conclusion, AllocError>
         requires { is_some (runtime_service_of slot) ≡ true }

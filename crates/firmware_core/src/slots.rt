@@ -66,6 +66,7 @@ impl Firmware {
             Service::SetMem => self.at_set_mem(alloc),
             Service::OutputString => self.at_output_string(alloc),
             Service::TestString => self.at_test_string(alloc),
+            Service::QueryMode => self.at_query_mode(),
             Service::SetMode => Ok(self.at_set_mode()),
             Service::Screen => Ok(Conclusion::Answers(EfiStatus::SUCCESS.0)),
             Service::Reset => Ok(self.at_reset()),

@@ -20,6 +20,7 @@ loop-step-init c =
       quiet = c.requires.quiet;
       events = refl;
       level = refl;
+      gone = refl;
       time = omega arith;
       first = λ e. refl;
       second = λ e. (let none : ⊥ = omega arith in absurd none);
