@@ -1,19 +1,22 @@
 -- What is answered behind files that were had is answered of the whole plan.
-use Rattle.std.proofs.Common.{◌≡◌, ◌≤◌, ℕ, Bool, List, Option, Result, Err, refl, sym, ap, subst, ◌∙◌, inl, inr, arith}
+use Rattle.std.proofs.Common.{◌≡◌, ◌≤◌, ℕ, Bool, true, false, List, Option, Some, None, Result, Err, refl, sym, ap, subst, ◌∙◌, inl, inr, arith}
 use Rattle.std.specs.Prelude.{◌⊎◌, string_bytes}
 use Rattle.uh_base.specs.Counts.{Rose}
 use Rattle.uh_base.specs.Told.{FileMap, Lacks, IsLonger, grown, GrownByPart}
 use Rattle.host_engine.specs.declared.assembly.Unassembled.{Unassembled}
 use Rattle.host_engine.specs.declared.assembly.Unassembled.TheVariants as whys
+use Rattle.host_script.specs.declared.fault.ScriptKind.TheVariants as kinds
 use Rattle.host_engine.specs.declared.refusal.Refusal.{Refusal}
 use Rattle.host_engine.specs.declared.refusal.Refusal.TheVariants as why
-use Rattle.host_engine.specs.Commands.{run_answer}
+use Rattle.host_engine.specs.Commands.{run_answer, place_text}
 use Rattle.host_engine.specs.Gives.{CommandGives, PutWhole, PutPart, TakesMemory}
 use Rattle.host_engine.specs.Jobs.{bytes_of}
 use Rattle.host_engine.specs.Outside.{outside}
-use Rattle.host_engine.specs.Plans.{Wanted, Way, ByLines, Plan, Reads, Over, Prints, NotAssembled, Leads, IsMissing}
-use Rattle.host_engine.specs.ScriptRuns.{Run, Ran}
-use Rattle.host_engine.specs.Stages.{Onward, Refuses, IsWhy, refusal_of}
+use Rattle.host_engine.specs.Plans.{Wanted, Way, ByLines, Plan, Reads, Over, Prints, ScriptRefused, NotAssembled, Leads, IsMissing}
+use Rattle.host_engine.specs.ScriptRuns.{Run, Ran, RunGives}
+use Rattle.host_engine.specs.declared.script_run.Outcome.{Outcome}
+use Rattle.host_engine.specs.declared.script_run.Outcome.TheVariants as outcomes
+use Rattle.host_engine.specs.Stages.{Onward, Refuses, IsWhy, IsScriptRefusal, refusal_of}
 use Rattle.host_engine.proofs.PlanLemmas.{here, trans, read_past, missing_past, lacked, too_long}
 
 pub rose_from : (first before behind : ℕ) → first ≤ before → Rose before behind → Rose first behind
@@ -109,9 +112,20 @@ not_assembled plan rest takes over wanted (whys.Refused text) is told told' f f'
     (subst (Leads told plan) same leads, refl)
 not_assembled plan rest takes over wanted whys.Memory is told told' f f' l l' out p leads = (takes, inl refl)
 
+-- ---- scripts that are refused
+
+pub script_words : (plan : Plan) (wanted : List ℕ) (refusal : Refusal) → TakesMemory plan → IsScriptRefusal wanted refusal → (told told' : Option FileMap) (f f' l l' p p' : ℕ) (old new : Option (List ℕ)) → Leads told plan (Over (ScriptRefused wanted)) → new ≡ old
+    → CommandGives plan (Err refusal) (outside told f l old p) (outside told' f' l' new p')
+script_words plan wanted (why.Script text) takes is told told' f f' l l' p p' old new leads same = (subst (λ (t : List ℕ). Leads told plan (Over (ScriptRefused t))) (sym is) leads, same)
+script_words plan wanted why.Memory takes is told told' f f' l l' p p' old new leads same = (takes, inl same)
+script_words plan wanted (why.Read name) takes is told told' f f' l l' p p' old new leads same = absurd is
+script_words plan wanted (why.Size name) takes is told told' f f' l l' p p' old new leads same = absurd is
+script_words plan wanted (why.Assembly text) takes is told told' f f' l l' p p' old new leads same = absurd is
+script_words plan wanted why.Write takes is told told' f f' l l' p p' old new leads same = absurd is
+
 -- ---- runs
 
-module _ (plan : Plan) (whole : Run) (told told' : Option FileMap) (f f' l l' p p' : ℕ) (old new : Option (List ℕ)) (leads : Leads told plan (Over (run_answer whole))) where
+module _ (plan : Plan) (whole : Run) (told told' : Option FileMap) (f f' l l' p p' : ℕ) (old new : Option (List ℕ)) (leads : Leads told plan (Over (run_answer (Some whole)))) where
   pub ran_whole : (halted : Bool) → Ran whole halted old new → PutWhole plan halted (outside told f l old p) (outside told' f' l' new p')
   ran_whole halted ran = record {
     way = ByLines;
@@ -122,3 +136,39 @@ module _ (plan : Plan) (whole : Run) (told told' : Option FileMap) (f f' l l' p 
 
   pub ran_part : GrownByPart old (bytes_of whole.lines) new → PutPart ByLines plan (outside told f l old p) (outside told' f' l' new p')
   ran_part part = record { text = bytes_of whole.lines; halted = whole.halted; comes = leads; put = part }
+
+-- ---- the run of a script, which has none where its store is refused
+
+-- the outcome of a run whose lines were put whole
+abbrev pub outcome_of : Bool → Outcome
+outcome_of false = outcomes.Done
+outcome_of true = outcomes.Halted
+
+not_whole : (halted : Bool) → (outcome_of halted ≡ outcomes.Store) ⊎ (outcome_of halted ≡ outcomes.Memory) → ⊥
+not_whole false (inl is) = cc
+not_whole false (inr is) = cc
+not_whole true (inl is) = cc
+not_whole true (inr is) = cc
+
+not_write : (outcomes.Write ≡ outcomes.Store) ⊎ (outcomes.Write ≡ outcomes.Memory) → ⊥
+not_write (inl is) = cc
+not_write (inr is) = cc
+
+module _ (plan : Plan) (told told' : Option FileMap) (f f' l l' p p' : ℕ) (old new : Option (List ℕ)) where
+  pub run_whole : (run : Option Run) (halted : Bool) → Leads told plan (Over (run_answer run)) → RunGives run (outcome_of halted) old p new p' → PutWhole plan halted (outside told f l old p) (outside told' f' l' new p')
+  run_whole (Some whole) false leads ran = ran_whole plan whole told told' f f' l l' p p' old new leads false ran
+  run_whole (Some whole) true leads ran = ran_whole plan whole told told' f f' l l' p p' old new leads true ran
+  run_whole None halted leads ran = absurd (not_whole halted ran.0)
+
+  pub run_write : (run : Option Run) → Leads told plan (Over (run_answer run)) → RunGives run outcomes.Write old p new p' → CommandGives plan (Err why.Write) (outside told f l old p) (outside told' f' l' new p')
+  run_write (Some whole) leads ran = (ran.0, (ByLines, ran_part plan whole told told' f f' l l' p p' old new leads ran.1))
+  run_write None leads ran = absurd (not_write ran.0)
+
+  pub run_memory : (run : Option Run) → TakesMemory plan → Leads told plan (Over (run_answer run)) → RunGives run outcomes.Memory old p new p' → CommandGives plan (Err why.Memory) (outside told f l old p) (outside told' f' l' new p')
+  run_memory (Some whole) takes leads ran = (takes, inr (ran_part plan whole told told' f f' l l' p p' old new leads ran))
+  run_memory None takes leads ran = (takes, inl ran.1)
+
+  pub run_refused : (run : Option Run) (refusal : Refusal) → TakesMemory plan → IsScriptRefusal (place_text (0, kinds.Store)) refusal → Leads told plan (Over (run_answer run)) → RunGives run outcomes.Store old p new p'
+      → CommandGives plan (Err refusal) (outside told f l old p) (outside told' f' l' new p')
+  run_refused (Some whole) refusal takes is leads ran = absurd ran
+  run_refused None refusal takes is leads ran = script_words plan (place_text (0, kinds.Store)) refusal takes is told told' f f' l l' p p' old new leads ran.1

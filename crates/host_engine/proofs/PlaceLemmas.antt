@@ -1,5 +1,5 @@
 -- The places of a script's images.
-use Rattle.std.proofs.Common.{◌≡◌, ℕ, zero, suc, List, [], ◌∷◌, Bool, true, false, length, get_or, drop, map, ◌<◌, ◌≤◌, ◌+◌, refl, sym, ap, subst, ◌∙◌, arith}
+use Rattle.std.proofs.Common.{◌≡◌, ℕ, zero, suc, List, [], ◌∷◌, Bool, true, false, Option, length, get_or, drop, map, ◌<◌, ◌≤◌, ◌+◌, refl, sym, ap, subst, ◌∙◌, arith}
 use Rattle.std.proofs.lemmas.List.{drop_more, drop_all, length-map}
 use Rattle.std.specs.Str.{bytes_eq}
 use Rattle.host_script.specs.Forms.{IsStep, AreSteps}
@@ -48,9 +48,9 @@ step_at images (first ∷ steps) zero step keep below is = subst (IsStep images)
 step_at images (first ∷ steps) (suc i) step keep below is = step_at images steps i step keep.1 (omega arith) is
 
 -- the place of a known image is one of the inputs
-pub is_handed : {V : Type 0} (view : V → List ℕ) (images other : List ImageSpec) (name : List ℕ) (place : ℕ) (files slice : List V) (inputs : Inputs) → has_image other name ≡ true → place ≡ place_of images name → images ≡ other
-    → slice ≡ files → record { images = map view files } ≡ inputs → length inputs.images ≡ length other → place < length slice
-is_handed view images other name place files slice inputs has is same whole viewed many =
+pub is_handed : {V : Type 0} (view : V → List ℕ) (images other : List ImageSpec) (name : List ℕ) (place : ℕ) (files slice : List V) (store : Option (List ℕ)) (inputs : Inputs) → has_image other name ≡ true → place ≡ place_of images name → images ≡ other
+    → slice ≡ files → record { images = map view files; store = store } ≡ inputs → length inputs.images ≡ length other → place < length slice
+is_handed view images other name place files slice store inputs has is same whole viewed many =
     let below : place_of other name < length other = place_in other name has in
     let at : place ≡ place_of other name = is ∙ ap (λ (l : List ImageSpec). place_of l name) same in
     let a : length slice ≡ length files = ap length whole in

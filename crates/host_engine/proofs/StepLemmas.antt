@@ -14,38 +14,39 @@ use Rattle.host_engine.specs.Inputs.{Inputs}
 use Rattle.host_script.specs.Plain.{Plain}
 use Rattle.host_engine.specs.declared.job.Stop.{Stop}
 use Rattle.page_alloc.specs.Pages.{PageList}
+use Rattle.variable_store.specs.Entries.{Entry}
 use Rattle.memory_map.specs.Map.{map_of}
 use Rattle.firmware_core.specs.Jobs.{Job, job_of}
 use Rattle.host_engine.specs.Jobs.{Ended, Puts, line_bytes, bytes_of}
-use Rattle.host_engine.specs.ScriptRuns.{row_of, map_lines, Running, Run, Ran, Stepped, Made, then_by, then_run, step_made, run_from, run_of, at_opening, job_over, last_line}
+use Rattle.host_engine.specs.ScriptRuns.{row_of, map_lines, Running, Run, Ran, Stepped, Made, then_by, then_run, step_made, run_from, run_with, at_opening}
 use Rattle.host_engine.proofs.PutLemmas.{part_behind, grown-grown, both, first}
 use Rattle.host_engine.proofs.LineLemmas.{grown-nil, bytes_of-last, put_more, part_more}
 
 -- ---- a job with its last line
 
-job_text : (name handles : List ℕ) (job : Job) → bytes_of job.lines ++ line_bytes (last_line name job.end) ≡ bytes_of (job_over name handles job).lines
-job_text name handles job = sym (bytes_of-last job.lines (last_line name job.end))
+job_text : (last : JobEnd → Line) (job : Job) → bytes_of job.lines ++ line_bytes (last job.end) ≡ bytes_of (job.lines ++ last job.end ∷ [])
+job_text last job = sym (bytes_of-last job.lines (last job.end))
 
-module _ (name handles : List ℕ) (job : Job) (end : JobEnd) (state : State) (ended : Ended job end state) where
-  ended_text : bytes_of job.lines ++ line_bytes (last_line name end) ≡ bytes_of (job_over name handles job).lines
-  ended_text = ap (λ (e : JobEnd). bytes_of job.lines ++ line_bytes (last_line name e)) ended.is_end ∙ job_text name handles job
+module _ (last : JobEnd → Line) (job : Job) (end : JobEnd) (state : State) (ended : Ended job end state) where
+  ended_text : bytes_of job.lines ++ line_bytes (last end) ≡ bytes_of (job.lines ++ last job.end ∷ [])
+  ended_text = ap (λ (e : JobEnd). bytes_of job.lines ++ line_bytes (last e)) ended.is_end ∙ job_text last job
 
-  pub job_put : {X : Type 0} (r : Result X Stop) (old now new : Option (List ℕ)) (f g h : ℕ) → now ≡ grown old (bytes_of job.lines) → f ≤ g → Puts r (line_bytes (last_line name end)) now g new h → Puts r (bytes_of (job_over name handles job).lines) old f new h
-  job_put r old now new f g h put le puts = both r (bytes_of job.lines) (line_bytes (last_line name end)) _ old now new f g h ended_text put le puts
+  pub job_put : {X : Type 0} (r : Result X Stop) (old now new : Option (List ℕ)) (f g h : ℕ) → now ≡ grown old (bytes_of job.lines) → f ≤ g → Puts r (line_bytes (last end)) now g new h → Puts r (bytes_of (job.lines ++ last job.end ∷ [])) old f new h
+  job_put r old now new f g h put le puts = both r (bytes_of job.lines) (line_bytes (last end)) _ old now new f g h ended_text put le puts
 
-pub job_stops : (X Y : Type 0) (name handles : List ℕ) (job : Job) (stop : Stop) (old new : Option (List ℕ)) (f h : ℕ) → Puts {X = X} (Err stop) (bytes_of job.lines) old f new h → Puts {X = Y} (Err stop) (bytes_of (job_over name handles job).lines) old f new h
-job_stops X Y name handles job stop old new f h puts = first X Y stop (bytes_of job.lines) (line_bytes (last_line name job.end)) _ old new f h (job_text name handles job) puts
+pub job_stops : (X Y : Type 0) (last : JobEnd → Line) (job : Job) (stop : Stop) (old new : Option (List ℕ)) (f h : ℕ) → Puts {X = X} (Err stop) (bytes_of job.lines) old f new h → Puts {X = Y} (Err stop) (bytes_of (job.lines ++ last job.end ∷ [])) old f new h
+job_stops X Y last job stop old new f h puts = first X Y stop (bytes_of job.lines) (line_bytes (last job.end)) _ old new f h (job_text last job) puts
 
 -- the same, where the run is told as another
-module _ (name : List ℕ) (x r : Running) (is : x ≡ r) where
+module _ (last : JobEnd → Line) (x r : Running) (is : x ≡ r) where
   pub finish_put : {X : Type 0} (answer : Result X Stop) (end : JobEnd) (state : State) → Ended (job_of x.machine) end state → (old now new : Option (List ℕ)) (f g h : ℕ) → now ≡ grown old (bytes_of (job_of x.machine).lines) → f ≤ g
-      → Puts answer (line_bytes (last_line name end)) now g new h → Puts answer (bytes_of (job_over name r.handles (job_of r.machine)).lines) old f new h
+      → Puts answer (line_bytes (last end)) now g new h → Puts answer (bytes_of ((job_of r.machine).lines ++ last (job_of r.machine).end ∷ [])) old f new h
   finish_put answer end state ended old now new f g h put le puts =
-      subst (λ (y : Running). Puts answer (bytes_of (job_over name y.handles (job_of y.machine)).lines) old f new h) is (job_put name x.handles (job_of x.machine) end state ended answer old now new f g h put le puts)
+      subst (λ (y : Running). Puts answer (bytes_of ((job_of y.machine).lines ++ last (job_of y.machine).end ∷ [])) old f new h) is (job_put last (job_of x.machine) end state ended answer old now new f g h put le puts)
 
-  pub finish_stops : (X Y : Type 0) (stop : Stop) (old new : Option (List ℕ)) (f h : ℕ) → Puts {X = X} (Err stop) (bytes_of (job_of x.machine).lines) old f new h → Puts {X = Y} (Err stop) (bytes_of (job_over name r.handles (job_of r.machine)).lines) old f new h
+  pub finish_stops : (X Y : Type 0) (stop : Stop) (old new : Option (List ℕ)) (f h : ℕ) → Puts {X = X} (Err stop) (bytes_of (job_of x.machine).lines) old f new h → Puts {X = Y} (Err stop) (bytes_of ((job_of r.machine).lines ++ last (job_of r.machine).end ∷ [])) old f new h
   finish_stops X Y stop old new f h puts =
-      subst (λ (y : Running). Puts {X = Y} (Err stop) (bytes_of (job_over name y.handles (job_of y.machine)).lines) old f new h) is (job_stops X Y name x.handles (job_of x.machine) stop old new f h puts)
+      subst (λ (y : Running). Puts {X = Y} (Err stop) (bytes_of ((job_of y.machine).lines ++ last (job_of y.machine).end ∷ [])) old f new h) is (job_stops X Y last (job_of x.machine) stop old new f h puts)
 
 -- ---- the memory map
 
@@ -102,15 +103,16 @@ pub record SoFar (whole rest : Run) (old now : Option (List ℕ)) : Type 0 where
 pub begins : (run : Run) (told : Option (List ℕ)) → SoFar run run told told
 begins run told = record { before = []; same = refl; put = grown-nil told }
 
-pub handles_opened : (script : Plain) (r : Running) → r ≡ at_opening script → length r.handles ≡ length script.image
-handles_opened script r e = ap (λ (x : Running). length x.handles) e ∙ length-replicate {A = ℕ} (length script.image) 0
+pub handles_opened : (script : Plain) (variables : List Entry) (r : Running) → r ≡ at_opening script variables → length r.handles ≡ length script.image
+handles_opened script variables r e = ap (λ (x : Running). length x.handles) e ∙ length-replicate {A = ℕ} (length script.image) 0
 
 -- before the first step
-pub opens : (script : Plain) (inputs : Inputs) (r : Running) (steps : List Step) (told : Option (List ℕ)) → r ≡ at_opening script → steps ≡ script.step → SoFar (run_of script inputs) (run_from script inputs r steps) told told
-unfolding run_of
-opens script inputs r steps told at_start same =
-    subst (λ (x : Running). SoFar (run_of script inputs) (run_from script inputs x steps) told told) (sym at_start)
-    (subst (λ (ss : List Step). SoFar (run_of script inputs) (run_from script inputs (at_opening script) ss) told told) (sym same) (begins (run_of script inputs) told))
+pub opens : (script : Plain) (inputs : Inputs) (variables : List Entry) (r : Running) (steps : List Step) (told : Option (List ℕ)) → r ≡ at_opening script variables → steps ≡ script.step
+    → SoFar (run_with script inputs variables) (run_from script inputs r steps) told told
+unfolding run_with
+opens script inputs variables r steps told at_start same =
+    subst (λ (x : Running). SoFar (run_with script inputs variables) (run_from script inputs x steps) told told) (sym at_start)
+    (subst (λ (ss : List Step). SoFar (run_with script inputs variables) (run_from script inputs (at_opening script variables) ss) told told) (sym same) (begins (run_with script inputs variables) told))
 
 goes : (step : Stepped) (rest : Run) → GoesOn ≡ step.course → then_run step rest ≡ behind step.lines rest
 goes step rest h = let back = sym h in rw back refl

@@ -1,5 +1,5 @@
 -- What each command reads and comes to.
-use Rattle.std.specs.Prelude.{ℕ, ◌++◌, List, [], ◌∷◌, Bool, true, false, Result, Ok, Err}
+use Rattle.std.specs.Prelude.{ℕ, ◌++◌, List, [], ◌∷◌, Bool, true, false, Option, Some, None, Result, Ok, Err}
 use Rattle.std.specs.Fmt.{decimal}
 use Rattle.rv_step.specs.declared.ends.Trap.TheVariants.{Ebreak, Illegal, Ecall, Fault}
 use Rattle.guest_build.specs.Assembled.{assembled}
@@ -8,13 +8,14 @@ use Rattle.image_dump.specs.Reports.{Report, image_report}
 use Rattle.image_dump.specs.Listings.{list_report}
 use Rattle.host_script.specs.Faults.{Place, kind_name}
 use Rattle.host_script.specs.Plain.{Plain}
+use Rattle.host_script.specs.declared.fault.ScriptKind.TheVariants as kinds
 use Rattle.host_script.specs.declared.script.ImageSpec.{ImageSpec}
 use Rattle.host_script.specs.declared.script.Origin.{Origin}
 use Rattle.host_script.specs.declared.script.Origin.TheVariants.{File, Text}
 use Rattle.host_engine.specs.Assemblies.{Made, in_words, assembled_file, all_made}
 use Rattle.host_engine.specs.Executions.{Cause, Bound, Trapped, flat_end}
 use Rattle.host_engine.specs.Jobs.{bytes_of}
-use Rattle.host_engine.specs.Limits.{script_limit, code_limit}
+use Rattle.host_engine.specs.Limits.{script_limit, code_limit, store_limit}
 use Rattle.host_engine.specs.Lines.{flat_text}
 use Rattle.host_engine.specs.Plans.{Wanted, Fixed, AtOnce, ByLines, Answer, Prints, ScriptRefused, NotAssembled, Plan, Reads, Over}
 use Rattle.host_engine.specs.ScriptRuns.{Run, run_of}
@@ -28,6 +29,9 @@ script_file name = record { name = name; most = script_limit }
 
 abbrev pub code_file : List ℕ → Wanted
 code_file name = record { name = name; most = code_limit }
+
+abbrev pub store_file : List ℕ → Wanted
+store_file name = record { name = name; most = store_limit }
 
 -- an execution is done where it ends at EBREAK, and halted elsewhere
 abbrev pub halts : Cause → Bool
@@ -60,20 +64,31 @@ unfoldable pub images_read : List ImageSpec → List Made → (List Made → Pla
 images_read [] before next = next before
 images_read (image ∷ images) before next = origin_read image.name image.origin (λ made. images_read images (before ++ made ∷ []) next)
 
-abbrev pub run_answer : Run → Answer
-run_answer run = Prints ByLines (bytes_of run.lines) run.halted
-
--- All files are read before a text is refused.
-abbrev pub texts_judged : Plain → Result (List (List ℕ)) (List ℕ) → Plan
-texts_judged script (Ok images) = Over (run_answer (run_of script (record { images = images })))
-texts_judged script (Err text) = Over (NotAssembled text)
+-- The file of a store is read, if there is one.
+abbrev pub store_read : Option (List ℕ) → (Option (List ℕ) → Plan) → Plan
+store_read None next = next None
+store_read (Some name) next = Reads (store_file name) (λ bytes. next (Some bytes))
 
 -- where a script is refused, and why, in words
 abbrev pub place_text : Place → List ℕ
 place_text place = decimal place.0 ++ 32 ∷ kind_name place.1
 
+-- A script whose store is refused has no run.
+abbrev pub run_answer : Option Run → Answer
+run_answer (Some run) = Prints ByLines (bytes_of run.lines) run.halted
+run_answer None = ScriptRefused (place_text (0, kinds.Store))
+
+-- All files are read before a text is refused, and all texts are assembled before the store is.
+abbrev pub texts_judged : Plain → Option (List ℕ) → Result (List (List ℕ)) (List ℕ) → Plan
+texts_judged script store (Ok images) = Over (run_answer (run_of script (record { images = images; store = store })))
+texts_judged script store (Err text) = Over (NotAssembled text)
+
+-- what follows a script's images
+abbrev pub images_judged : Plain → List Made → Plan
+images_judged script made = store_read script.store (λ store. texts_judged script store (all_made made))
+
 abbrev pub script_plan : Result Plain Place → Plan
-script_plan (Ok script) = images_read script.image [] (λ made. texts_judged script (all_made made))
+script_plan (Ok script) = images_read script.image [] (λ made. images_judged script made)
 script_plan (Err place) = Over (ScriptRefused (place_text place))
 
 -- ---- all commands

@@ -1,8 +1,8 @@
 -- The run of a script: the lines of its steps, in order.
-use Rattle.std.specs.Prelude.{◌≡◌, ℕ, List, [], ◌∷◌, ◌++◌, ◌==◌, length, map, replicate, slice_index_or, slice_set, Bool, true, false, Option, Some, None, pos, if◌then◌else◌}
+use Rattle.std.specs.Prelude.{◌≡◌, ◌⊎◌, ℕ, List, [], ◌∷◌, ◌++◌, ◌==◌, length, map, replicate, slice_index_or, slice_set, Bool, true, false, Option, Some, None, Result, Ok, Err, if◌then◌else◌}
 use Rattle.std.specs.List.{position_or_len}
 use Rattle.std.specs.Str.{bytes_eq}
-use Rattle.uh_base.specs.Statuses.{invalid_parameter}
+use Rattle.uh_base.specs.Statuses.{success, invalid_parameter}
 use Rattle.uh_base.specs.Counts.{Rose}
 use Rattle.uh_base.specs.Told.{grown, GrownByPart}
 use Rattle.record_text.specs.declared.line.Line.{Line}
@@ -14,8 +14,17 @@ use Rattle.host_script.specs.declared.script.Step.TheVariants.{Load, Unload, Sta
 use Rattle.page_alloc.specs.Pages.{PageList}
 use Rattle.memory_map.specs.declared.descriptor.Descriptor.{Descriptor}
 use Rattle.memory_map.specs.Map.{map_of}
-use Rattle.time_service.specs.Clocks.{ClockState}
-use Rattle.time_service.specs.Texts.{clock_of}
+use Rattle.guest_memory.specs.Pages as memory
+use Rattle.guest_memory.specs.Pages.{Pages}
+use Rattle.guest_memory.specs.Runs.{bytes_from}
+use Rattle.address_view.specs.Windows.{see, seen_bytes}
+use Rattle.address_view.specs.Seen.{all_pass, is_seen}
+use Rattle.address_view.specs.declared.view.Window.{Window}
+use Rattle.time_service.specs.Clocks.{set_to}
+use Rattle.time_service.specs.Texts.{time_in}
+use Rattle.variable_store.specs.Entries.{Entry}
+use Rattle.variable_store.specs.Reading.{store_in}
+use Rattle.variable_store.specs.Store.{store_of}
 use Rattle.firmware_core.specs.declared.happened.JobEnd.{JobEnd}
 use Rattle.firmware_core.specs.declared.happened.JobEnd.TheVariants.{Left, Reset, Halted}
 use Rattle.firmware_core.specs.declared.job.Job.TheVariants as jobs
@@ -23,6 +32,7 @@ use Rattle.firmware_core.specs.Opening.{opened}
 use Rattle.firmware_core.specs.Turns.{State}
 use Rattle.firmware_core.specs.Jobs.{Begun, begun, Job, job_of}
 use Rattle.firmware_core.specs.Loads.{LoadDone, loaded, UnloadDone, unloaded}
+use Rattle.firmware_core.specs.ExitSteps.{ExitDone, exited}
 use Rattle.host_engine.specs.Inputs.{Inputs}
 use Rattle.host_engine.specs.declared.course.Course.{Course}
 use Rattle.host_engine.specs.declared.course.Course.TheVariants.{GoesOn, Resets, Halts}
@@ -110,6 +120,27 @@ unload_comes_to name handles done = record {
 unfoldable pub unload_made : List ℕ → ℕ → Running → Stepped
 unload_made name place r = unload_comes_to name r.handles (unloaded r.machine (handle_at r.handles place))
 
+-- ---- exit_boot
+
+-- the last line of the job that ends boot services
+abbrev pub exit_line : JobEnd → Line
+exit_line (Left value steps) = lines.ExitBoot value
+exit_line (Reset kind status) = lines.Reset kind status
+exit_line (Halted halt) = lines.Halt halt.cause halt.pc halt.at
+
+abbrev pub exit_over : List ℕ → Job → Stepped
+exit_over handles job = record { lines = job.lines ++ exit_line job.end ∷ []; course = course_of job.end; running = record { machine = job.state; handles = handles } }
+
+-- A refusal is told at once. Else the job is made, whose notifications may print.
+abbrev pub exit_comes_to : List ℕ → ExitDone → Stepped
+exit_comes_to handles done =
+    if done.status == success then exit_over handles (job_of done.state)
+    else record { lines = lines.ExitBoot done.status ∷ []; course = GoesOn; running = record { machine = done.state; handles = handles } }
+
+-- the end of boot services for the image at a place, with a key of the memory map or the present one
+unfoldable pub exit_made : ℕ → Option ℕ → Running → Stepped
+exit_made place key r = exit_comes_to r.handles (exited r.machine (handle_at r.handles place) key)
+
 -- ---- memmap
 
 abbrev pub row_of : Descriptor → Line
@@ -122,6 +153,24 @@ map_lines pages = lines.MemmapKey pages.key ∷ map row_of (map_of pages)
 abbrev pub map_made : Running → Stepped
 map_made r = record { lines = map_lines r.machine.firmware.runtime.pages; course = GoesOn; running = r }
 
+-- ---- peek
+
+-- The bytes that are seen from an address on, whatever the rights there; a fault where one of them isn't seen.
+unfoldable pub peek_line : List Window → Pages → ℕ → ℕ → Line
+peek_line windows m at len =
+    if all_pass (is_seen (see windows) m) at len then lines.Peek at (bytes_from (seen_bytes (see windows) (memory.bytes_of m)) at len)
+    else lines.PeekFault at
+
+-- bytes of memory, in the present view
+abbrev pub peek_made : ℕ → ℕ → Running → Stepped
+peek_made at len r = record { lines = peek_line r.machine.firmware.runtime.view r.machine.firmware.runtime.memory at len ∷ []; course = GoesOn; running = r }
+
+-- ---- vars
+
+-- the store file of the present variables
+abbrev pub vars_made : Running → Stepped
+vars_made r = record { lines = lines.Vars (store_of r.machine.firmware.variables) ∷ []; course = GoesOn; running = r }
+
 -- ---- the run
 
 -- A step that isn't built makes nothing; a script that has one is refused before it runs (`first_unbuilt`).
@@ -133,12 +182,12 @@ step_made script inputs (Load name) r = load_made name (place_of script.image na
 step_made script inputs (Start name bound) r = start_made name (place_of script.image name) bound r
 step_made script inputs (Unload name) r = unload_made name (place_of script.image name) r
 step_made script inputs MemMap r = map_made r
-step_made script inputs (ExitBoot name key) r = nothing_made r
+step_made script inputs (ExitBoot name key) r = exit_made (place_of script.image name) key r
 step_made script inputs (Check name origin) r = nothing_made r
 step_made script inputs (Map map) r = nothing_made r
 step_made script inputs (Call call) r = nothing_made r
-step_made script inputs (Peek at len) r = nothing_made r
-step_made script inputs Vars r = nothing_made r
+step_made script inputs (Peek at len) r = peek_made at len r
+step_made script inputs Vars r = vars_made r
 
 -- the lines of a run, and whether its last line is a halt
 pub record Run : Type 0 where
@@ -157,21 +206,29 @@ unfoldable pub run_from : Plain → Inputs → Running → List Step → Run
 run_from script inputs r [] = record { lines = lines.End ∷ []; halted = false }
 run_from script inputs r (step ∷ steps) = then_run (step_made script inputs step r) (run_from script inputs (step_made script inputs step r).running steps)
 
--- The clock begins at the time of the script; every script's time sets one.
-abbrev pub clock_set : Option ClockState → ClockState
-clock_set (Some clock) = clock
-clock_set None = record { day = 0; nanosecond = 0; time_zone = pos 2047; daylight = 0; set_at = 0 }
-
--- the machine that a script asks for, with no variable, and none of its images loaded
-abbrev pub at_opening : Plain → Running
-at_opening script = record {
-  machine = record { firmware = opened script.ram_base script.ram_pages script.ticks (clock_set (clock_of script.time)) []; steps = 0; bound = 0; trace = script.trace };
+-- the machine that a script asks for, with these variables, its clock at the time of the script, and none of its images loaded
+abbrev pub at_opening : Plain → List Entry → Running
+at_opening script variables = record {
+  machine = record { firmware = opened script.ram_base script.ram_pages script.ticks (set_to 0 (time_in script.time)) variables; steps = 0; bound = 0; trace = script.trace };
   handles = replicate (length script.image) 0;
 }
 
--- the run of a script over the files of its images
-unfoldable pub run_of : Plain → Inputs → Run
-run_of script inputs = run_from script inputs (at_opening script) script.step
+-- the run of a script from these variables on
+unfoldable pub run_with : Plain → Inputs → List Entry → Run
+run_with script inputs variables = run_from script inputs (at_opening script variables) script.step
+
+-- the variables of a store, or where it is refused; without a store there are none
+abbrev pub variables_in : Option (List ℕ) → Result (List Entry) ℕ
+variables_in None = Ok []
+variables_in (Some bytes) = store_in bytes
+
+abbrev pub run_loaded : Plain → Inputs → Result (List Entry) ℕ → Option Run
+run_loaded script inputs (Ok variables) = Some (run_with script inputs variables)
+run_loaded script inputs (Err at) = None
+
+-- the run of a script over the files of its images and its store; none where the store is refused
+abbrev pub run_of : Plain → Inputs → Option Run
+run_of script inputs = run_loaded script inputs (variables_in inputs.store)
 
 -- A step was made so.
 pub record Made (whole : Stepped) (course : Course) (running : Running) : Type 0 where
@@ -183,10 +240,16 @@ pub record Ran (whole : Run) (halted : Bool) (old new : Option (List ℕ)) : Typ
   pub is_halted : halted ≡ whole.halted
   pub put : new ≡ grown old (bytes_of whole.lines)
 
--- What the run of a script came to: its lines were put whole, and its last line is a halt or not; or a part of them was
--- put, since a put failed in this call or memory was wanting.
-abbrev pub RunGives : Run → Outcome → Option (List ℕ) → ℕ → Option (List ℕ) → ℕ → Type 0
-RunGives run outcomes.Done old faults new faults' = Ran run false old new
-RunGives run outcomes.Halted old faults new faults' = Ran run true old new
-RunGives run outcomes.Write old faults new faults' = Rose faults faults' × GrownByPart old (bytes_of run.lines) new
-RunGives run outcomes.Memory old faults new faults' = GrownByPart old (bytes_of run.lines) new
+-- What a run came to: its lines were put whole, and its last line is a halt or not; or a part of them was put, since a put
+-- failed in this call or memory was wanting.
+abbrev pub Ends : Run → Outcome → Option (List ℕ) → ℕ → Option (List ℕ) → ℕ → Type 0
+Ends run outcomes.Done old faults new faults' = Ran run false old new
+Ends run outcomes.Halted old faults new faults' = Ran run true old new
+Ends run outcomes.Store old faults new faults' = ⊥
+Ends run outcomes.Write old faults new faults' = Rose faults faults' × GrownByPart old (bytes_of run.lines) new
+Ends run outcomes.Memory old faults new faults' = GrownByPart old (bytes_of run.lines) new
+
+-- The same of a script, which has no run where its store is refused: then nothing was put.
+abbrev pub RunGives : Option Run → Outcome → Option (List ℕ) → ℕ → Option (List ℕ) → ℕ → Type 0
+RunGives (Some run) outcome old faults new faults' = Ends run outcome old faults new faults'
+RunGives None outcome old faults new faults' = ((outcome ≡ outcomes.Store) ⊎ (outcome ≡ outcomes.Memory)) × (new ≡ old)

@@ -36,6 +36,12 @@ abbrev pub refusal_of : Unassembled → Refusal
 refusal_of (Refused text) = refusals.Assembly text
 refusal_of Memory = refusals.Memory
 
+-- A script is refused in these words, unless memory was wanting.
+abbrev pub IsScriptRefusal : List ℕ → Refusal → Type 0
+IsScriptRefusal wanted (refusals.Script text) = string_bytes text ≡ wanted
+IsScriptRefusal wanted refusals.Memory = Unit {0}
+IsScriptRefusal wanted refusal = ⊥
+
 -- why lines on an image file weren't put whole
 abbrev pub stop_refusal : Stop → Refusal
 stop_refusal stops.Write = refusals.Write

@@ -1,5 +1,5 @@
 -- What a script may ask for and the program doesn't carry out yet: such a script is refused, before any further file is read.
-use Rattle.std.specs.Prelude.{ℕ, ◌+◌, ◌||◌, List, [], ◌∷◌, Bool, true, false, Option, Some, None, Result, Ok, Err, if◌then◌else◌}
+use Rattle.std.specs.Prelude.{ℕ, ◌+◌, List, [], ◌∷◌, Bool, true, false, Option, Some, None, Result, Ok, Err, if◌then◌else◌}
 use Rattle.host_script.specs.Faults.{Place}
 use Rattle.host_script.specs.Plain.{Plain}
 use Rattle.host_script.specs.Script.{script_in}
@@ -11,22 +11,22 @@ abbrev pub is_given : {A : Type 0} → Option A → Bool
 is_given None = false
 is_given (Some x) = true
 
--- The OS window isn't moved yet, and no store is loaded.
+-- The OS window isn't moved yet.
 unfoldable pub asks_unbuilt : Plain → Bool
-asks_unbuilt script = is_given script.os_virtual || is_given script.store
+asks_unbuilt script = is_given script.os_virtual
 
--- Boot services don't end, no virtual address map is made, no driver is checked, and no bytes and no variables are printed yet.
+-- No virtual address map is made, no driver is checked, and no runtime code is called yet.
 abbrev pub is_built : Step → Bool
 is_built (steps.Load image) = true
 is_built (steps.Unload image) = true
 is_built (steps.Start image bound) = true
 is_built steps.MemMap = true
-is_built (steps.ExitBoot image key) = false
+is_built (steps.ExitBoot image key) = true
 is_built (steps.Check image origin) = false
 is_built (steps.Map call) = false
 is_built (steps.Call call) = false
-is_built (steps.Peek at len) = false
-is_built steps.Vars = false
+is_built (steps.Peek at len) = true
+is_built steps.Vars = true
 
 -- the first step that isn't built, of steps that are numbered from one number on
 abbrev pub unbuilt_step : ℕ → List Step → Option Place

@@ -1,27 +1,29 @@
-//! The images of a script: their files are read, and then their texts are assembled.
+//! What a script is run over: the files of its images and its store are read, and then the texts among the images are assembled.
 #![tactic(auto)]
 
-ghost use Rattle.std.specs.Prelude.{◌≡◌, ◌<◌, [], IfOk, IfErr, map, length, Ok};
+ghost use Rattle.std.specs.Prelude.{◌≡◌, ◌<◌, ℕ, List, Option, [], IfOk, IfErr, map, length, Ok};
 ghost use Rattle.host_script.specs.Forms.{IsOrigin, AreImages};
 ghost use Rattle.host_engine.specs.Assemblies.{Made, in_words, all_made};
-ghost use Rattle.host_engine.specs.Commands.{origin_read, script_plan, texts_judged};
+ghost use Rattle.host_engine.specs.Commands.{origin_read, store_read, script_plan, images_judged};
 ghost use Rattle.host_engine.specs.Plans.{Plan, Leads};
 ghost use Rattle.host_engine.specs.Stages.{Onward, Refuses, AssemblyGives, made};
 
 use crate::assembly::{Unassembled, assembly};
 use crate::code::{Code, ImageFile, Listing};
-use crate::limits::CODE_LIMIT;
+use crate::limits::{CODE_LIMIT, STORE_LIMIT};
 use crate::refusal::{Refusal, read_file};
 use host_script::{Origin, Script};
 use std::alloc::Global;
 use std::marker::Model;
-use uh_base::Files;
+use uh_base::{Bytes, Files};
 
 /// What the steps of a script are run over.
 #[derive(Drop)]
 pub struct Inputs {
     /// The bytes of the script's images, in the script's order.
     pub images: Vec<ImageFile>,
+    /// The bytes of the file of the variables at opening, if there is one.
+    pub store: Option<Bytes>,
 }
 
 impl Model for Inputs {
@@ -30,7 +32,7 @@ impl Model for Inputs {
 
     ghost Value = { Inputs };
 
-    ghost view = { λ inputs. record { images = map (λ image. image.bytes.items) inputs.images.items } };
+    ghost view = { λ inputs. record { images = map (λ image. image.bytes.items) inputs.images.items; store = inputs.store } };
 }
 
 /// What an image is made of: its text, or the bytes of its file, of which there are at most 4 MiB.
@@ -64,7 +66,7 @@ pub fn read_images<'a, F: Files>(
     files: &mut F,
 ) -> Result<Vec<Code<'a>>, Refusal>
     requires { AreImages [] script.now.image }
-    ensures had { IfOk result (λ codes. Leads (F.told files.old) (script_plan (Ok script.now)) (texts_judged script.now (all_made (map made codes.items)))) }
+    ensures had { IfOk result (λ codes. Leads (F.told files.old) (script_plan (Ok script.now)) (images_judged script.now (map made codes.items))) }
     ensures many { IfOk result (λ codes. length codes.items ≡ length script.now.image) }
     ensures refused { IfErr result (λ refusal. Refuses (script_plan (Ok script.now)) refusal (F.told files.old) (F.faults files.old) (F.longs files.old) (F.faults files.new) (F.longs files.new)) }
     ensures onward { Onward (F.told files.old) (F.told files.new) (F.faults files.old) (F.faults files.new) (F.longs files.old) (F.longs files.new) }
@@ -81,6 +83,26 @@ pub fn read_images<'a, F: Files>(
         }
     }
     Ok(codes)
+}
+
+/// Reads the file of a script's store, if it has one, of at most 128 KiB.
+pub fn read_store<F: Files>(
+    alloc: Global,
+    script: &Script,
+    files: &mut F,
+) -> Result<Option<Bytes>, Refusal>
+    ensures had { IfOk result (λ store. (next : Option (List ℕ) → Plan) → Leads (F.told files.old) (store_read script.now.store next) (next store)) }
+    ensures refused { IfErr result (λ refusal. (next : Option (List ℕ) → Plan) → Refuses (store_read script.now.store next) refusal (F.told files.old) (F.faults files.old) (F.longs files.old) (F.faults files.new) (F.longs files.new)) }
+    ensures onward { Onward (F.told files.old) (F.told files.new) (F.faults files.old) (F.faults files.new) (F.longs files.old) (F.longs files.new) }
+{
+    let name = match &script.store {
+        Some(name) => name.as_str(),
+        None => return Ok(None),
+    };
+    match read_file(alloc, name, STORE_LIMIT, files) {
+        Ok(bytes) => Ok(Some(Bytes::from_vec(bytes))),
+        Err(refusal) => Err(refusal),
+    }
 }
 
 /// The bytes of an image: those of its file, or those that its text is assembled to.

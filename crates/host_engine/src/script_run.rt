@@ -1,4 +1,4 @@
-//! The run of a script over the files of its images.
+//! The run of a script over the files of its images and its store.
 ghost use Rattle.std.specs.Prelude.{◌≡◌, ◌<◌, ◌∷◌, [], IfOk, OnErr, OnOk, Err, Some, length, map, true, replicate};
 ghost use Rattle.record_text.specs.declared.line.Line.TheVariants as lines;
 ghost use Rattle.memory_map.specs.Map.{map_of};
@@ -7,15 +7,22 @@ ghost use Rattle.firmware_core.specs.Jobs.{job_of};
 ghost use Rattle.host_script.specs.Script.{is_ram_base};
 ghost use Rattle.host_script.specs.Forms.{IsScript, IsStep};
 ghost use Rattle.host_engine.specs.Jobs.{line_bytes, bytes_of, Puts};
-ghost use Rattle.time_service.specs.Texts.{clock_of};
+ghost use Rattle.guest_memory.specs.Pages.{Pages};
+ghost use Rattle.time_service.specs.Clocks.{set_to};
+ghost use Rattle.time_service.specs.Texts.{time_in};
+ghost use Rattle.uh_base.specs.Answers.{Reads};
+ghost use Rattle.variable_store.specs.Reading.{named};
+ghost use Rattle.variable_store.specs.Store.{store_of};
 ghost use Rattle.host_engine.specs.declared.course.Course.TheVariants.{GoesOn};
-ghost use Rattle.host_engine.specs.ScriptRuns.{place_of, file_at, with_handle, handle_at, load_made, last_line, course_of, job_over, start_made, unload_made, row_of, map_lines, clock_set, step_made, run_of, at_opening, Made, RunGives};
+ghost use Rattle.host_engine.specs.ScriptRuns.{place_of, file_at, with_handle, handle_at, load_made, last_line, course_of, job_over, start_made, unload_made, exit_line, exit_over, exit_made, row_of, map_lines, peek_line, peek_made, vars_made, step_made, run_with, variables_in, run_of, at_opening, Made, RunGives};
 
 use crate::code::ImageFile;
 use crate::course::Course;
 use crate::inputs::Inputs;
 use crate::job::{Stop, put_line, run_job, say};
+use address_view::{View, is_seen, load_bytes};
 use firmware_core::{Halt, Job, JobEnd, Machine, Setup, begin, load, unload};
+use guest_memory::GuestMemory;
 use host_script::{ImageSpec, Script, Step};
 use memory_map::{Descriptor, MapCursor};
 use page_alloc::PageMap;
@@ -23,8 +30,8 @@ use record_text::Line;
 use std::alloc::{AllocError, Global};
 use std::marker::Model;
 use time_service::Clock;
-use uh_base::{EfiStatus, Sink, Text};
-use variable_store::Variables;
+use uh_base::{Bytes, EfiStatus, Sink, Text};
+use variable_store::{StoreFault, Variables};
 
 /// The machine of a run, and for each image of the script the handle of the one that was loaded last, 0 where none was.
 #[derive(Drop)]
@@ -290,6 +297,64 @@ fn unload_image<O: Sink>(
     }
 }
 
+/// Puts the last line of the job that ends boot services.
+fn put_exit<O: Sink>(alloc: Global, end: JobEnd, out: &mut O) -> Result<Course, Stop>
+    ensures course { IfOk result (λ course. course ≡ course_of end) }
+    ensures puts { Puts result (line_bytes (exit_line end)) (O.written out.old) (O.faults out.old) (O.written out.new) (O.faults out.new) }
+{
+    let course = course_of(&end);
+    let put = match end {
+        JobEnd::Left { value, .. } => say(alloc, Line::ExitBoot { h0: value }, out),
+        JobEnd::Reset { kind, status } => say(alloc, Line::Reset { kind, h0: status }, out),
+        JobEnd::Halted(halt) => say(alloc, halt_line(halt), out),
+    };
+    match put {
+        Ok(()) => Ok(course),
+        Err(stop) => Err(stop),
+    }
+}
+
+/// Puts the lines of the job that ends boot services.
+fn finish_exit<O: Sink>(alloc: Global, running: &mut Running, out: &mut O) -> Result<Course, Stop>
+    ensures made { IfOk result (λ course. Made (exit_over running.old.handles (job_of running.old.machine)) course running.new) }
+    ensures puts { Puts result (bytes_of (exit_over running.old.handles (job_of running.old.machine)).lines) (O.written out.old) (O.faults out.old) (O.written out.new) (O.faults out.new) }
+    ensures handles { running.new.handles ≡ running.old.handles }
+{
+    let end = match run_job(alloc, &mut running.machine, out) {
+        Ok(end) => end,
+        Err(stop) => return Err(stop),
+    };
+    put_exit(alloc, end, out)
+}
+
+/// Ends boot services for the image at a place of the script and puts the lines of the step.
+#[tactic(auto, unfolding(crate::specs::ScriptRuns::exit_made))]
+fn exit_boot<O: Sink>(
+    alloc: Global,
+    place: usize,
+    key: Option<u64>,
+    running: &mut Running,
+    out: &mut O,
+) -> Result<Course, Stop>
+    requires known { place < length running.old.handles }
+    ensures made { IfOk result (λ course. Made (exit_made place key running.old) course running.new) }
+    ensures puts { Puts result (bytes_of (exit_made place key running.old).lines) (O.written out.old) (O.faults out.old) (O.written out.new) (O.faults out.new) }
+    ensures many { length running.new.handles ≡ length running.old.handles }
+{
+    let handle = running.handle_at(place);
+    let status = match running.machine.exit_boot(handle, key) {
+        Ok(status) => status.0,
+        Err(_) => return Err(Stop::Memory),
+    };
+    if status == EfiStatus::SUCCESS.0 {
+        return finish_exit(alloc, running, out);
+    }
+    match say(alloc, Line::ExitBoot { h0: status }, out) {
+        Ok(()) => Ok(Course::GoesOn),
+        Err(stop) => Err(stop),
+    }
+}
+
 /// The line of a descriptor.
 fn row_of(descriptor: Descriptor) -> Line
     ensures { result ≡ row_of descriptor }
@@ -331,6 +396,66 @@ fn put_map<O: Sink>(alloc: Global, pages: &PageMap, out: &mut O) -> Result<(), S
     put_rows(alloc, &mut rows, out)
 }
 
+/// The line of bytes of memory, whatever the rights there.
+#[tactic(auto, unfolding(crate::specs::ScriptRuns::peek_line))]
+fn peek_line(
+    alloc: Global,
+    memory: &GuestMemory,
+    view: &View,
+    at: u64,
+    len: u32,
+) -> Result<Line, AllocError>
+    ensures { IfOk result (λ line. line ≡ peek_line view.now memory.now at len) }
+{
+    let len = u64::from(len);
+    if !is_seen(memory, view, at, len) {
+        return Ok(Line::PeekFault { h0: at });
+    }
+    let bytes = load_bytes(alloc, memory, view, at, len)?;
+    Ok(Line::Peek {
+        h0: at,
+        hex: Bytes::from_vec(bytes),
+    })
+}
+
+/// Puts the line of bytes of memory, in the present view.
+fn put_peek<O: Sink>(
+    alloc: Global,
+    at: u64,
+    len: u32,
+    running: &Running,
+    out: &mut O,
+) -> Result<Course, Stop>
+    ensures course { IfOk result (λ course. course ≡ GoesOn) }
+    ensures puts { Puts result (bytes_of (peek_made at len running.now).lines) (O.written out.old) (O.faults out.old) (O.written out.new) (O.faults out.new) }
+{
+    let runtime = running.machine.runtime();
+    let line = match peek_line(alloc, &runtime.memory, &runtime.view, at, len) {
+        Ok(line) => line,
+        Err(_) => return Err(Stop::Memory),
+    };
+    match say(alloc, line, out) {
+        Ok(()) => Ok(Course::GoesOn),
+        Err(stop) => Err(stop),
+    }
+}
+
+/// Puts the line of the present variables.
+fn put_vars<O: Sink>(alloc: Global, running: &Running, out: &mut O) -> Result<Course, Stop>
+    ensures course { IfOk result (λ course. course ≡ GoesOn) }
+    ensures puts { Puts result (bytes_of (vars_made running.now).lines) (O.written out.old) (O.faults out.old) (O.written out.new) (O.faults out.new) }
+{
+    let bytes = match running.machine.variables().save() {
+        Ok(bytes) => bytes,
+        Err(_) => return Err(Stop::Memory),
+    };
+    let hex = Bytes::from_vec(bytes);
+    match say(alloc, Line::Vars { hex }, out) {
+        Ok(()) => Ok(Course::GoesOn),
+        Err(stop) => Err(stop),
+    }
+}
+
 /// A step that isn't built makes nothing.
 fn make_nothing<O: Sink>(out: &mut O) -> Result<Course, Stop>
     ensures course { IfOk result (λ course. course ≡ GoesOn) }
@@ -370,12 +495,15 @@ fn make_step<O: Sink>(
             let place = place_of(script.image.as_slice(), image.as_str());
             unload_image(alloc, image, place, running, out)
         }
-        Step::ExitBoot { .. } => make_nothing(out),
+        Step::ExitBoot { image, key } => {
+            let place = place_of(script.image.as_slice(), image.as_str());
+            exit_boot(alloc, place, *key, running, out)
+        }
         Step::Check { .. } => make_nothing(out),
         Step::Map(_) => make_nothing(out),
         Step::Call(_) => make_nothing(out),
-        Step::Peek { .. } => make_nothing(out),
-        Step::Vars => make_nothing(out),
+        Step::Peek { at, len } => put_peek(alloc, *at, *len, running, out),
+        Step::Vars => put_vars(alloc, running, out),
         Step::MemMap => match put_map(alloc, running.machine.pages(), out) {
             Ok(()) => Ok(Course::GoesOn),
             Err(stop) => Err(stop),
@@ -386,7 +514,7 @@ fn make_step<O: Sink>(
 /// The clock at opening: at the time of the script.
 fn opening_clock(script: &Script) -> Clock
     requires { IsScript script.now }
-    ensures clock { result ≡ clock_set (clock_of script.now.time) }
+    ensures clock { result ≡ set_to 0 (time_in script.now.time) }
     ensures set_at { result.set_at ≡ 0 }
 {
     match Clock::at(script.time.as_str()) {
@@ -395,10 +523,20 @@ fn opening_clock(script: &Script) -> Clock
     }
 }
 
-/// The run at opening.
-fn open(alloc: Global, script: &Script) -> Result<Running, AllocError>
+/// The variables at opening: those of the store, if there is one.
+fn variables_of(alloc: Global, inputs: &Inputs) -> Result<Variables, StoreFault>
+    ensures { Reads named (λ variables. variables) result (variables_in inputs.now.store) }
+{
+    match &inputs.store {
+        Some(store) => Variables::load(alloc, store.as_slice()),
+        None => Ok(Variables::new(alloc)),
+    }
+}
+
+/// The run at opening, with these variables.
+fn open(alloc: Global, script: &Script, variables: Variables) -> Result<Running, AllocError>
     requires { IsScript script.now }
-    ensures { IfOk result (λ running. running ≡ at_opening script.now) }
+    ensures { IfOk result (λ running. running ≡ at_opening script.now variables) }
 {
     let mut handles = Vec::new(alloc);
     handles.resize(script.image.as_slice().len(), 0)?;
@@ -407,7 +545,7 @@ fn open(alloc: Global, script: &Script) -> Result<Running, AllocError>
         pages: script.ram_pages,
         ticks: Vec::from_slice(alloc, script.ticks.as_slice())?,
         clock: opening_clock(script),
-        variables: Variables::new(alloc),
+        variables,
         trace: script.trace,
     };
     Ok(Running {
@@ -416,19 +554,20 @@ fn open(alloc: Global, script: &Script) -> Result<Running, AllocError>
     })
 }
 
-/// Makes the steps in order and puts their lines; true where the run is halted.
+/// Makes the steps in order, with these variables at opening, and puts their lines; true where the run is halted.
 fn run_steps<O: Sink>(
     alloc: Global,
     script: &Script,
     inputs: &Inputs,
+    variables: Variables,
     out: &mut O,
 ) -> Result<bool, Stop>
     requires forms { IsScript script.now }
     requires many { length inputs.now.images ≡ length script.now.image }
-    ensures halted { IfOk result (λ halted. halted ≡ (run_of script.now inputs.now).halted) }
-    ensures puts { Puts result (bytes_of (run_of script.now inputs.now).lines) (O.written out.old) (O.faults out.old) (O.written out.new) (O.faults out.new) }
+    ensures halted { IfOk result (λ halted. halted ≡ (run_with script.now inputs.now variables).halted) }
+    ensures puts { Puts result (bytes_of (run_with script.now inputs.now variables).lines) (O.written out.old) (O.faults out.old) (O.written out.new) (O.faults out.new) }
 {
-    let mut running = match open(alloc, script) {
+    let mut running = match open(alloc, script, variables) {
         Ok(running) => running,
         Err(_) => return Err(Stop::Memory),
     };
@@ -454,20 +593,27 @@ pub enum Outcome {
     Done,
     /// The last line is a `halt`.
     Halted,
+    /// The store is refused.
+    Store,
     /// The output failed.
     Write,
     /// Memory was wanting.
     Memory,
 }
 
-/// Runs the steps of a script over the bytes of its images, from the machine at opening, and puts each line as it comes, in
-/// one put each.
+/// Runs the steps of a script over the bytes of its images and its store, from the machine at opening, and puts each line as
+/// it comes, in one put each. Nothing is put where the store is refused.
 pub fn run_script<O: Sink>(alloc: Global, script: &Script, inputs: &Inputs, out: &mut O) -> Outcome
     requires forms { IsScript script.now }
     requires many { length inputs.now.images ≡ length script.now.image }
     ensures { RunGives (run_of script.now inputs.now) result (O.written out.old) (O.faults out.old) (O.written out.new) (O.faults out.new) }
 {
-    match run_steps(alloc, script, inputs, out) {
+    let variables = match variables_of(alloc, inputs) {
+        Ok(variables) => variables,
+        Err(StoreFault::At(_)) => return Outcome::Store,
+        Err(StoreFault::Memory) => return Outcome::Memory,
+    };
+    match run_steps(alloc, script, inputs, variables, out) {
         Ok(true) => Outcome::Halted,
         Ok(false) => Outcome::Done,
         Err(Stop::Write) => Outcome::Write,

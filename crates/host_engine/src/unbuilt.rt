@@ -14,7 +14,7 @@ use std::alloc::Global;
 fn asks_unbuilt(script: &Script) -> bool
     ensures { result ≡ asks_unbuilt script.now }
 {
-    script.os_virtual.is_some() || script.store.is_some()
+    script.os_virtual.is_some()
 }
 
 /// Whether a step is carried out.
@@ -25,13 +25,13 @@ fn is_built(step: &Step) -> bool
         Step::Load { .. } => true,
         Step::Unload { .. } => true,
         Step::Start { .. } => true,
-        Step::ExitBoot { .. } => false,
+        Step::ExitBoot { .. } => true,
         Step::Check { .. } => false,
         Step::Map(_) => false,
         Step::Call(_) => false,
-        Step::Peek { .. } => false,
+        Step::Peek { .. } => true,
         Step::MemMap => true,
-        Step::Vars => false,
+        Step::Vars => true,
     }
 }
 

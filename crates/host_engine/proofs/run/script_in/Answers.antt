@@ -8,7 +8,7 @@ returns-in-Ok-read_runnable-clause-had g c = script_had _ _ c.in-Ok.file.items _
 pub returns-in-Ok-read_runnable-clause-forms : goal.returns-in-Ok-read_runnable-clause-forms
 returns-in-Ok-read_runnable-clause-forms g c = c.in-Ok-read_runnable.ensures.forms
 
-pub returns-in-Ok-place_text-clause-refused : goal.returns-in-Ok-place_text-clause-refused
-returns-in-Ok-place_text-clause-refused g c =
+pub returns-clause-refused : goal.returns-clause-refused
+returns-clause-refused g c =
     let said = rw c.in-Err-At.field-0-is at c.in-Err-At.ensures.reads in
-    λ told' out p. script_refused _ _ c.in-Ok.file.items (c.in-Err-At.step, c.in-Err-At.kind) c.in-Ok-place_text.text c.in-Ok.ensures.had (rw (sym c.as_slice.ensures.value) said) c.in-Ok-place_text.ensures told' 0 0 0 0 out p
+    λ told' out p. script_refused _ _ c.in-Ok.file.items (c.in-Err-At.step, c.in-Err-At.kind) c.script_refusal.result c.in-Ok.ensures.had (rw (sym c.as_slice.ensures.value) said) c.script_refusal.ensures told' _ _ _ _ out p

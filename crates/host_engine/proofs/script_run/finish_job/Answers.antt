@@ -1,8 +1,10 @@
+use Rattle.firmware_core.specs.declared.happened.JobEnd.{JobEnd}
+use Rattle.host_engine.specs.ScriptRuns.{last_line}
 use Rattle.host_engine.proofs.StepLemmas.{finish_put, finish_stops}
 use Rattle.host_engine.proofs.script_run.finish_job.Goals as goal
 
 pub returns-in-Err-clause-puts : goal.returns-in-Err-clause-puts
-returns-in-Err-clause-puts g c = finish_stops c.args.name.now _ c.args.running.now c.running.view_is _ _ c.in-Err.stop _ _ _ _ c.in-Err.ensures.puts
+returns-in-Err-clause-puts g c = finish_stops (λ (e : JobEnd). last_line c.args.name.now e) _ c.args.running.now c.running.view_is _ _ c.in-Err.stop _ _ _ _ c.in-Err.ensures.puts
 
 pub returns-clause-puts : goal.returns-clause-puts
-returns-clause-puts g c = finish_put c.args.name.now _ c.args.running.now c.running.view_is _ c.in-Ok.end _ c.in-Ok.ensures.ended _ _ _ _ _ _ c.in-Ok.ensures.puts.whole c.run_job.ensures.puts.never_falls c.put_last.ensures.puts
+returns-clause-puts g c = finish_put (λ (e : JobEnd). last_line c.args.name.now e) _ c.args.running.now c.running.view_is _ c.in-Ok.end _ c.in-Ok.ensures.ended _ _ _ _ _ _ c.in-Ok.ensures.puts.whole c.run_job.ensures.puts.never_falls c.put_last.ensures.puts
