@@ -1,0 +1,10 @@
+pub mod ByteLemmas
+pub mod SiteLemmas
+pub mod ImageLemmas
+pub mod Grounds
+pub mod TouchedLemmas
+pub mod RunLemmas
+pub mod WholeLemmas
+pub mod MakeLemmas
+pub mod LawLemmas
+pub mod OpeningLemmas
