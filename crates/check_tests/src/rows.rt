@@ -10,7 +10,7 @@ use std::process::Abort;
 use std::test::Fail;
 
 /// The words of the driver's code, from the offset 0x1074 of the image on: `count`, `bump` and `moved`.
-static CODE: [u32; 29] = [
+pub(crate) static CODE: [u32; 29] = [
     0x00001297, 0xf9c28293, 0x0002b283, 0x00028067, 0x00001297, 0xf8428293, 0x0002b283, 0x0002b303,
     0x00a30333, 0x0062b023, 0x00030513, 0x00008067, 0xff010113, 0x00113423, 0x00001297, 0xf5428293,
     0x0002b283, 0x0402b283, 0x00000513, 0x00001597, 0xf4858593, 0x000280e7, 0x00000513, 0x00001597,
@@ -18,7 +18,7 @@ static CODE: [u32; 29] = [
 ];
 
 /// The nodes of its certificate.
-static NODES: [&str; 29] = [
+pub(crate) static NODES: [&str; 29] = [
     "0x1074; ra p 3 0, sp p 1 65536, a0 n; ; 1; ",
     "0x1078; ra p 3 0, sp p 1 65536, a0 n, t0 p 0 0x2074; ; 2; ",
     "0x107c; ra p 3 0, sp p 1 65536, a0 n, t0 p 0 0x2010; ; 3; ",

@@ -1,5 +1,5 @@
 -- What a certificate lays over the bytes of regions.
-use Rattle.std.specs.Prelude.{ℕ, zero, suc, ◌+◌, ◌*◌, ◌==◌, List, [], ◌∷◌, ◌++◌, if◌then◌else◌}
+use Rattle.std.specs.Prelude.{ℕ, zero, suc, ◌+◌, ◌*◌, ◌==◌, ◌&&◌, nat_lt, Bool, List, [], ◌∷◌, ◌++◌, if◌then◌else◌}
 use Rattle.prov_types.specs.declared.kinds.Kind.TheVariants.{Ptr}
 use Rattle.prov_types.specs.Spans.{one}
 use Rattle.prov_cert.specs.declared.cert.CertSpan.{CertSpan}
@@ -8,6 +8,7 @@ use Rattle.prov_cert.specs.declared.cert.Class.{Class as SpanClass}
 use Rattle.prov_layout.specs.declared.piece.Class.{Class}
 use Rattle.prov_layout.specs.declared.piece.Class.TheVariants.{Code, Plain, Number, Fixed, Convert}
 use Rattle.prov_layout.specs.declared.piece.Piece.{Piece}
+use Rattle.prov_layout.specs.Pieces.{begins_behind}
 
 -- the class of a span; a fixed one holds the address of an offset of the image, and a convertible one has a number
 abbrev pub class_of : (target cell : ℕ) → SpanClass → Class
@@ -19,6 +20,10 @@ class_of target cell (spans.Convert kind) = Convert kind cell
 
 abbrev pub piece_of : (target cell : ℕ) → CertSpan → Piece
 piece_of target cell s = record { region = s.region; at = s.at; len = s.len; class = class_of target cell s.class }
+
+-- two spans with bytes have one in common
+abbrev pub spans_meet : CertSpan → CertSpan → Bool
+spans_meet s t = s.region == t.region && (nat_lt s.at (t.at + t.len) && nat_lt t.at (s.at + s.len))
 
 -- the number of the next convertible cell behind a span
 abbrev pub next_cell : ℕ → SpanClass → ℕ
@@ -54,6 +59,17 @@ service_cells i (suc n) = service_cell i ∷ service_cells (i + 1) n
 abbrev pub given : List Piece
 given = arguments ∷ table_cell ∷ service_cells 0 14
 
--- all that is laid: what is given, and the spans, whose convertible cells are numbered in their order from 0
+-- a piece in front of the first that begins behind it
+unfoldable pub put_in : Piece → List Piece → List Piece
+put_in p [] = p ∷ []
+put_in p (q ∷ qs) = if begins_behind q p.region p.at then p ∷ (q ∷ qs) else (q ∷ put_in p qs)
+
+-- pieces put in one after another, so that all are in the order of their places
+unfoldable pub put_all : List Piece → List Piece → List Piece
+put_all pieces [] = pieces
+put_all pieces (p ∷ ps) = put_all (put_in p pieces) ps
+
+-- All that is laid, in the order of places: what is given, and the spans, whose convertible cells are numbered in their order
+-- from 0.
 unfoldable pub laid : (targets : ℕ → ℕ) → List CertSpan → List Piece
-laid targets spans = given ++ pieces_from targets 0 0 spans
+laid targets spans = put_all [] (given ++ pieces_from targets 0 0 spans)

@@ -7,7 +7,7 @@ ghost use Rattle.prov_layout.specs.Pieces.{AreOrdered, IsListed, all_of, begins_
 use crate::piece::{Piece, Reader, has_byte, is_code, is_open, is_plain, is_shut};
 
 /// Whether a piece begins behind the byte of a region at an offset.
-fn begins_behind(p: &Piece, region: u8, o: u64) -> bool
+pub(crate) fn begins_behind(p: &Piece, region: u8, o: u64) -> bool
     ensures { result ≡ begins_behind p.now region o }
 {
     region < p.region || region == p.region && o < p.at

@@ -5,6 +5,7 @@
 mod find;
 mod joins;
 mod laws;
+mod laying;
 mod loads;
 mod piece;
 mod stack;
@@ -12,7 +13,8 @@ mod stores;
 
 pub use find::{all_code, piece_at};
 pub use joins::join;
-pub use laws::{closed_outside, every_is_each};
+pub use laws::{closed_outside, every_is_each, laid_is_ordered};
+pub use laying::lay;
 pub use loads::{load_kinds, read_kind};
 pub use piece::{Class, Piece, Reader, is_cell_among};
 pub use stack::{meets, part_kind, stored_kind};

@@ -1,6 +1,6 @@
 -- Tests at many numbers.
 use Rattle.std.proofs.Common.{◌≡◌, ℕ, zero, suc, ◌≤◌, ◌<◌, ◌+◌, ◌-◌, ◌*◌, ◌/◌, ◌%◌, arith, Bool, true, false, refl, ◌∙◌, ap, Some, None}
-use Rattle.std.specs.Prelude.{◌&&◌, nat_le, slice_index}
+use Rattle.std.specs.Prelude.{◌&&◌, if◌then◌else◌, nat_le, slice_index}
 use Rattle.std.proofs.lemmas.Bool.Decides.{nat_tests}
 use Rattle.std.proofs.Math.Nat.{add-mul, div-mul-le_self, mod-eq-sub-div-mul}
 use Rattle.prov_types.specs.declared.kinds.Span.{Span}
@@ -8,7 +8,7 @@ use Rattle.prov_types.specs.Spans.{IsProper}
 use Rattle.prov_types.specs.Kinds.{length_of}
 use Rattle.prov_layout.specs.Offsets.{every, count, at_each}
 use Rattle.provenance_check.specs.Ground.{Ground}
-use Rattle.provenance_check.specs.Entries.{first_from}
+use Rattle.provenance_check.specs.Entries.{EachPasses, FirstFails, NoneFails, first_from}
 use Rattle.provenance_check.specs.Accesses.{is_allowed}
 
 pub both : (a b : Bool) → (a && b) ≡ true → (a ≡ true) × (b ≡ true)
@@ -134,3 +134,24 @@ fails_from test i (suc n) (suc m) l h e =
     let a : test i ≡ true = ap test z ∙ h 0 (omega arith) in
     let y : i + 1 + m ≡ i + suc m = omega arith in
     rw a (fails_from test (i + 1) n m (omega (arith, l)) (λ k q. let w : i + 1 + k ≡ i + suc k = omega arith in ap test w ∙ h (suc k) (omega (arith, q))) (ap test y ∙ e) ∙ ap Some y)
+
+passes_from : (test : ℕ → Bool) (i n k : ℕ) → first_from test i n ≡ None → k < n → test (i + k) ≡ true
+unfolding first_from
+passes_from test i zero k h l = absurd (omega arith)
+passes_from test i (suc n) k h l = by (λ m g q. passes_from test (i + 1) n m g q) k l (test i) refl h
+  where
+    by : ((m : ℕ) → first_from test (i + 1) n ≡ None → m < n → test (i + 1 + m) ≡ true) → (m : ℕ) → m < suc n → (b : Bool) → test i ≡ b → (if b then first_from test (i + 1) n else Some i) ≡ None → test (i + m) ≡ true
+    by more zero q true e g = let z : i + 0 ≡ i = omega arith in ap test z ∙ e
+    by more (suc m) q true e g = let z : i + suc m ≡ i + 1 + m = omega arith in ap test z ∙ more m g (omega arith)
+    by more m q false e g = absurd cc
+
+pub first_fails : FirstFails
+first_fails test n m l h e =
+    let z : (k : ℕ) → 0 + k ≡ k = λ k. omega arith in
+    fails_from test 0 n m l (λ k q. ap test (z k) ∙ h k q) (ap test (z m) ∙ e) ∙ ap Some (z m)
+
+pub none_fails : NoneFails
+none_fails test n h = none_from test 0 n (λ k q. let z : 0 + k ≡ k = omega arith in ap test z ∙ h k q)
+
+pub each_passes : EachPasses
+each_passes test n k h l = let z : k ≡ 0 + k = omega arith in ap test z ∙ passes_from test 0 n k h l

@@ -1,5 +1,5 @@
 -- The rule of an entry: what holds where a call begins serves its first node.
-use Rattle.std.specs.Prelude.{ℕ, zero, suc, ◌+◌, ◌==◌, ◌&&◌, nat_le, Bool, true, false, List, [], ◌∷◌, Option, Some, None, if◌then◌else◌, replicate, slice_get}
+use Rattle.std.specs.Prelude.{ℕ, zero, suc, ◌≡◌, ◌+◌, ◌<◌, ◌==◌, ◌&&◌, nat_le, Bool, true, false, List, [], ◌∷◌, Option, Some, None, if◌then◌else◌, replicate, slice_get}
 use Rattle.prov_types.specs.declared.kinds.Kind.{Kind}
 use Rattle.prov_types.specs.declared.kinds.Kind.TheVariants.{Any, Num, Ptr, Opt}
 use Rattle.prov_types.specs.Spans.{one}
@@ -12,6 +12,18 @@ use Rattle.provenance_check.specs.Rules.{kinds_fit, parts_fit}
 unfoldable pub first_from : (ℕ → Bool) → (i n : ℕ) → Option ℕ
 first_from test i zero = None
 first_from test i (suc n) = if test i then first_from test (i + 1) n else Some i
+
+-- a number at which a test fails is the first, where the test passes at each before it
+abbrev pub FirstFails : Type 0
+FirstFails = (test : ℕ → Bool) (n m : ℕ) → m < n → ((k : ℕ) → k < m → test k ≡ true) → test m ≡ false → first_from test 0 n ≡ Some m
+
+-- none fails where the test passes at each
+abbrev pub NoneFails : Type 0
+NoneFails = (test : ℕ → Bool) (n : ℕ) → ((k : ℕ) → k < n → test k ≡ true) → first_from test 0 n ≡ None
+
+-- the test passes at each where none fails
+abbrev pub EachPasses : Type 0
+EachPasses = (test : ℕ → Bool) (n k : ℕ) → first_from test 0 n ≡ None → k < n → test k ≡ true
 
 -- an argument's kind: a number, or an address in the OS arguments, region 2, which may also be 0
 abbrev pub is_given : Kind → Bool

@@ -8,3 +8,4 @@ pub mod Seen
 pub mod Judged
 pub mod Reached
 pub mod Entries
+pub mod Notified

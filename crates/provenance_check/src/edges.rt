@@ -123,7 +123,7 @@ fn are_among(done: &[u32], besides: Option<u32>, cells: &[u32]) -> bool
 
 /// Whether these cells and the one besides are just the others.
 #[tactic(auto, unfolding(crate::specs::Rules::are_among))]
-fn same_cells(done: &[u32], besides: Option<u32>, others: &[u32]) -> bool
+pub(crate) fn same_cells(done: &[u32], besides: Option<u32>, others: &[u32]) -> bool
     ensures { result ≡ same_cells (and_cell besides done.now) others.now }
 {
     are_among(done, besides, others)

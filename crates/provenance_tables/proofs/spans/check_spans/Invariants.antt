@@ -1,0 +1,6 @@
+use Rattle.std.proofs.Common.{◌≡◌, ◌<◌, ℕ, true}
+use Rattle.provenance_tables.specs.Spans.{span_passes}
+use Rattle.provenance_tables.proofs.spans.check_spans.Given as goal
+
+abbrev pub invariant-loop-i : goal.invariant-loop-i
+invariant-loop-i l = (k : ℕ) → k < l.i → span_passes l.state l.starts l.lens l.spans k ≡ true

@@ -1,0 +1,5 @@
+pub mod Regions
+pub mod Sites
+pub mod Spans
+pub mod Tables
+pub mod Passed
