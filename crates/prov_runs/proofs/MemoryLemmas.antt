@@ -1,20 +1,20 @@
 -- One step of two runs at a load or a store.
-use Rattle.std.proofs.Common.{◌≡◌, ℕ, ◌≤◌, ◌<◌, ◌+◌, ◌^◌, arith, Bool, false, refl, sym, ◌∙◌, ap, subst, None, List, inl, inr}
-use Rattle.std.specs.Prelude.{IsTrue, ◌≢◌}
+use Rattle.std.proofs.Common.{◌≡◌, ℕ, ◌≤◌, ◌<◌, ◌+◌, ◌^◌, arith, Bool, false, refl, sym, ◌∙◌, ap, subst, Option, Some, None, List, inl, inr}
+use Rattle.std.specs.Prelude.{IsTrue, Result, Ok, Err, ◌≢◌}
 use Rattle.uh_base.specs.Bytes.{first_refused, is_width, loaded, plus, with_number}
 use Rattle.rv_decode.specs.declared.insn.Insn.{Insn}
 use Rattle.rv_step.specs.declared.bus.Access.{Access}
 use Rattle.rv_step.specs.declared.bus.Access.TheVariants as access
 use Rattle.rv_step.specs.declared.ask.Ask.{Ask}
-use Rattle.rv_step.specs.declared.ask.Ask.TheVariants.{Load, Store}
-use Rattle.rv_step.specs.Exec.{IsFit, Outcome, State, done, loads, stores}
+use Rattle.rv_step.specs.declared.ask.Ask.TheVariants.{Jump, Load, Set, Stop, Store}
+use Rattle.rv_step.specs.Exec.{IsFit, Outcome, State, as_read, done, loads, step_of, stores, written}
 use Rattle.rv_step.specs.Numbers.{AsksAreFit, AsksFit, BitsFit, IsNumber}
 use Rattle.prov_types.specs.declared.kinds.Span.{Span}
 use Rattle.prov_types.specs.declared.kinds.Place.{Place}
 use Rattle.prov_types.specs.declared.kinds.Kind.{Kind}
-use Rattle.prov_types.specs.declared.kinds.Kind.TheVariants.{Ptr}
+use Rattle.prov_types.specs.declared.kinds.Kind.TheVariants.{Any, Num, Ptr, Opt}
 use Rattle.prov_types.specs.Kinds.{Holds, HoldsPtr, Regions, length_of}
-use Rattle.prov_types.specs.Asked.{Loads, Stores, asked_kinds}
+use Rattle.prov_types.specs.Asked.{Forks, Goes, Jumps, KindAsk, Loads, Sets, Stops, Stores, asked_kinds}
 use Rattle.prov_types.specs.Laws.{AsksHold}
 use Rattle.prov_cert.specs.declared.cert.StackPart.{StackPart}
 use Rattle.prov_layout.specs.Pieces.{is_of, piece_at}
@@ -25,12 +25,12 @@ use Rattle.prov_runs.specs.States.{with_kind}
 use Rattle.prov_runs.specs.LoadLaws.{ReadsHold, SpansHold, StackHolds}
 use Rattle.prov_runs.specs.StoreLaws.{BothStore, CodeStays, OthersStay, PartsStay, RegionsStay, StackKeeps, StackKeepsCode, StackLeaves, StoresKeep, is_stored_to, stored}
 use Rattle.prov_runs.specs.FetchLaws.{FetchesAlike}
-use Rattle.prov_runs.specs.Steps.{Allows, AtNode, BothGo, LoadsGive, Runs, StoresLeave, behind}
-use Rattle.prov_runs.specs.NodeLaws.{BothStep, LoadsAtNode, StoresAtNode}
+use Rattle.prov_runs.specs.Steps.{Allows, AtNode, BothGo, LoadsGive, OnStack, Runs, StoresLeave, behind, reached}
+use Rattle.prov_runs.specs.NodeLaws.{BothStep, LoadsAtNode, OthersStand, StoresAtNode, StoresToStack}
 use Rattle.prov_runs.proofs.NumberLemmas.{number_below}
 use Rattle.prov_runs.proofs.ReadLemmas.{read_fits, width_is, width_of}
 use Rattle.prov_runs.proofs.FetchLemmas.{allowed_all, load_is}
-use Rattle.prov_runs.proofs.NodeLemmas.{Alike, alike, bytes_after, first_ask, first_fit, first_number, new_next_is, old_next_is, one_offset, plus_fits, second_ask, second_number, set_go, steps}
+use Rattle.prov_runs.proofs.NodeLemmas.{Alike, alike, bytes_after, first_ask, first_fit, first_number, new_next_is, old_next_is, one_offset, plus_fits, read, second_ask, second_number, set_go, step_is, steps}
 
 module _ (fetches : FetchesAlike) (hold : AsksHold) (numbers : AsksFit) (are_fit : AsksAreFit) (u : Runs) (place : Place) (insn : Insn) (kinds : ℕ → Kind) (parts : List StackPart) (s t : State) (node : AtNode u place insn kinds parts s t) where
   abbrev g : Regions
@@ -183,6 +183,68 @@ module _ (fetches : FetchesAlike) (hold : AsksHold) (numbers : AsksFit) (are_fit
         (subst (λ k. Alike fetches hold numbers are_fit u place insn kinds parts s t node k (first_ask fetches hold numbers are_fit u place insn kinds parts s t node) (second_ask fetches hold numbers are_fit u place insn kinds parts s t node)) e
         (alike fetches hold numbers are_fit u place insn kinds parts s t node))
         (first_fit fetches hold numbers are_fit u place insn kinds parts s t node) (first_number fetches hold numbers are_fit u place insn kinds parts s t node) (second_number fetches hold numbers are_fit u place insn kinds parts s t node) leaves)
+
+  -- What a store to the stack alone leaves
+
+  abbrev Stands : State → Type 0
+  Stands left = (q x : ℕ) → x < length_of g.lens q → q ≢ 1 → left.bytes (g.old q + x) ≡ s.bytes (g.old q + x)
+
+  stood : (x : List ℕ) (pc : ℕ) (left : State) → Some (record { x = x; pc = pc; bytes = s.bytes }) ≡ Some left → Stands left
+  stood x pc left h = by (record { x = x; pc = pc; bytes = s.bytes }) left h (λ q y within off. refl)
+    where
+      by : (to left : State) → Some to ≡ Some left → ((q y : ℕ) → y < length_of g.lens q → q ≢ 1 → to.bytes (g.old q + y) ≡ s.bytes (g.old q + y)) → Stands left
+      by to left h e = let same : to ≡ left = cc in subst (λ z. (q y : ℕ) → y < length_of g.lens q → q ≢ 1 → z.bytes (g.old q + y) ≡ s.bytes (g.old q + y)) same e
+
+  load_stands : (rd width : ℕ) (sign : Bool) (got : Result ℕ ℕ) (left : State) → reached (loads old_behind s rd width sign got) ≡ Some left → Stands left
+  load_stands rd width sign (Ok n) left h = stood (written s.x rd (as_read sign width n)) old_behind left h
+  load_stands rd width sign (Err n) left h = absurd cc
+
+  module _ (regions : RegionsStay) where
+    store_stands : (r a b : ℕ) (q : Span) (width : ℕ) (kind : Kind) (v w : ℕ) (refused : Option ℕ) (left : State) → IsTrue (is_width width) → OnStack u access.Store r q width → HoldsPtr g r q a b → Holds g kind v w → v < 2 ^ 64 → w < 2 ^ 64
+        → reached (stores old_behind s a width v refused) ≡ Some left → Stands left
+    store_stands r a b q width kind v w (Some n) left wi on p value fv fw h = absurd cc
+    store_stands r a b q width kind v w None left wi on p value fv fw h = by (record { x = s.x; pc = old_behind; bytes = with_number s.bytes a width v }) left h stay
+      where
+        at : a ≡ g.old 1 + q.lo
+        at = p.old ∙ ap (λ n. g.old n + p.offset) on.region ∙ ap (λ n. g.old 1 + n) (one_offset q p.offset p.within on.one)
+
+        stay : (k x : ℕ) → x < length_of g.lens k → k ≢ 1 → with_number s.bytes a width v (g.old k + x) ≡ s.bytes (g.old k + x)
+        stay k x within off = ap (λ n. with_number s.bytes n width v (g.old k + x)) at ∙
+            (regions g u.laid.pieces s.bytes t.bytes 1 q.lo width kind v w k x (both_store 1 q.lo width kind v w wi on.allows.inside value fv fw) within off).0
+
+        by : (to left : State) → Some to ≡ Some left → ((k x : ℕ) → x < length_of g.lens k → k ≢ 1 → to.bytes (g.old k + x) ≡ s.bytes (g.old k + x)) → Stands left
+        by to left h e = let same : to ≡ left = cc in subst (λ z. (k x : ℕ) → x < length_of g.lens k → k ≢ 1 → z.bytes (g.old k + x) ≡ s.bytes (g.old k + x)) same e
+
+    ask_stands : (k : KindAsk) (a b : Ask) (left : State) → Alike fetches hold numbers are_fit u place insn kinds parts s t node k a b → StoresToStack u k → IsFit a → IsNumber a → IsNumber b
+        → reached (done a old_behind u.old_rights s) ≡ Some left → Stands left
+    ask_stands k (Set rd value) b left alike on f i j h = stood (written s.x rd value) old_behind left h
+    ask_stands k (Load rd at width sign) b left alike on f i j h = load_stands rd width sign (loaded s.bytes (u.old_rights access.Load) at width) left h
+    ask_stands k (Jump to rd) b left alike on f i j h = stood (written s.x rd old_behind) to left h
+    ask_stands k (Stop trap) b left alike on f i j h = absurd cc
+    ask_stands (Stores (Ptr r q) width kind) (Store a n v) (Store b m w) left alike on f i j h =
+        let same = alike.width_first in
+        store_stands r a b q width kind v w (first_refused (u.old_rights access.Store) a width) left (subst (λ z. IsTrue (is_width z)) same f) on alike.address alike.value (i.1) (j.1)
+        (subst (λ z. reached (stores old_behind s a z v (first_refused (u.old_rights access.Store) a z)) ≡ Some left) same h)
+    ask_stands (Stores (Ptr r q) width kind) (Store a n v) b left alike on f i j h = absurd alike
+    ask_stands (Stores Any width kind) (Store a n v) b left alike on f i j h = absurd on
+    ask_stands (Stores (Num q) width kind) (Store a n v) b left alike on f i j h = absurd on
+    ask_stands (Stores (Opt r q) width kind) (Store a n v) b left alike on f i j h = absurd on
+    ask_stands (Sets rd kind) (Store a n v) b left alike on f i j h = absurd alike
+    ask_stands (Loads rd at width sign) (Store a n v) b left alike on f i j h = absurd alike
+    ask_stands (Forks op x y next target) (Store a n v) b left alike on f i j h = absurd alike
+    ask_stands (Goes to rd) (Store a n v) b left alike on f i j h = absurd alike
+    ask_stands (Jumps to rd) (Store a n v) b left alike on f i j h = absurd alike
+    ask_stands Stops (Store a n v) b left alike on f i j h = absurd on
+
+    pub stands_at : (left : State) → StoresToStack u (asked_kinds g.lens insn place kinds) → reached (step_of u.old_rights s) ≡ Some left → Stands left
+    stands_at left on h =
+        let same = step_is u.old_rights s insn place.len (read fetches hold numbers are_fit u place insn kinds parts s t node).first in
+        ask_stands (asked_kinds g.lens insn place kinds) _ _ left (alike fetches hold numbers are_fit u place insn kinds parts s t node) on
+        (first_fit fetches hold numbers are_fit u place insn kinds parts s t node) (first_number fetches hold numbers are_fit u place insn kinds parts s t node) (second_number fetches hold numbers are_fit u place insn kinds parts s t node)
+        (subst (λ o. reached o ≡ Some left) same h)
+
+pub others_stand_at : FetchesAlike → AsksHold → AsksFit → AsksAreFit → RegionsStay → OthersStand
+others_stand_at fetches hold numbers are_fit regions u place insn kinds parts s t left node on h = stands_at fetches hold numbers are_fit u place insn kinds parts s t node regions left on h
 
 pub loads_at_node : FetchesAlike → AsksHold → AsksFit → AsksAreFit → BitsFit → ReadsHold → SpansHold → StackHolds → LoadsAtNode
 loads_at_node fetches hold numbers are_fit bits reads spans stack u notified cells place insn kinds parts s t rd r q width sign kind same node e gives =

@@ -99,7 +99,7 @@ offset_is a o i pc e = omega arith
 pub plus_fits : (a b : ℕ) → plus a b < 2 ^ 64
 plus_fits a b = omega arith
 
-step_is : (allows : Rights) (s : State) (insn : Insn) (len : ℕ) → fetched s.bytes allows s.pc ≡ Ok (insn, len) → step_of allows s ≡ done (asks insn len s.x s.pc) (plus s.pc len) allows s
+pub step_is : (allows : Rights) (s : State) (insn : Insn) (len : ℕ) → fetched s.bytes allows s.pc ≡ Ok (insn, len) → step_of allows s ≡ done (asks insn len s.x s.pc) (plus s.pc len) allows s
 unfolding step_of execute
 step_is allows s insn len h = rw h refl
 

@@ -1,22 +1,23 @@
 -- The laws of one step of two runs, by what the instruction asks for.
-use Rattle.std.specs.Prelude.{ℕ, ◌≡◌, ◌+◌, ◌%◌, Bool, true, List, Some, if◌then◌else◌}
+use Rattle.std.specs.Prelude.{ℕ, ◌≡◌, ◌≢◌, ◌+◌, ◌%◌, ◌<◌, Bool, true, List, Some, if◌then◌else◌}
 use Rattle.rv_decode.specs.declared.insn.Insn.{Insn}
 use Rattle.rv_decode.specs.declared.insn.Op.{Op}
+use Rattle.rv_step.specs.declared.bus.Access.TheVariants as access
 use Rattle.rv_step.specs.Exec.{State, step_of}
 use Rattle.prov_types.specs.declared.kinds.Kind.{Kind}
 use Rattle.prov_types.specs.declared.kinds.Kind.TheVariants.{Ptr}
 use Rattle.prov_types.specs.declared.kinds.Place.{Place}
 use Rattle.prov_types.specs.declared.kinds.Span.{Span}
-use Rattle.prov_types.specs.Kinds.{IsProperKind, Regions}
+use Rattle.prov_types.specs.Kinds.{IsProperKind, Regions, length_of}
 use Rattle.prov_types.specs.Fits.{fits}
 use Rattle.prov_types.specs.Transfer.{image_kind}
 use Rattle.prov_types.specs.Narrow.{narrow}
-use Rattle.prov_types.specs.Asked.{Forks, Goes, Jumps, Loads, Sets, Stores, asked_kinds, may_compare}
+use Rattle.prov_types.specs.Asked.{Forks, Goes, Jumps, KindAsk, Loads, Sets, Stops, Stores, asked_kinds, may_compare}
 use Rattle.prov_cert.specs.declared.cert.StackPart.{StackPart}
 use Rattle.prov_layout.specs.Loads.{read_kind}
 use Rattle.prov_runs.specs.Memory.{converted}
 use Rattle.prov_runs.specs.States.{StandAt, with_kind}
-use Rattle.prov_runs.specs.Steps.{AtNode, BothGo, LoadsGive, PartsFit, Runs, StoresLeave, behind}
+use Rattle.prov_runs.specs.Steps.{AtNode, BothGo, LoadsGive, OnStack, PartsFit, Runs, StoresLeave, behind, reached}
 
 -- both make one step
 abbrev pub BothStep : Runs → (r at : ℕ) → (kinds : ℕ → Kind) → List StackPart → (s t : State) → Type 0
@@ -72,6 +73,19 @@ JumpsAtNode = (u : Runs) (place : Place) (insn : Insn) (kinds : ℕ → Kind) (p
     → AtNode u place insn kinds parts s t → asked_kinds u.regions.lens insn place kinds ≡ Jumps (Ptr r span) rd → span.lo ≡ span.hi
     → (u.regions.old r + span.lo) % 2 ≡ 0 → (u.regions.new r + span.lo) % 2 ≡ 0
     → BothStep u r span.lo (linked u place kinds rd) parts s t
+
+-- an instruction that stores to the stack alone, or goes on without a store
+abbrev pub StoresToStack : Runs → KindAsk → Type 0
+StoresToStack u (Stores (Ptr r span) width kind) = OnStack u access.Store r span width
+StoresToStack u (Stores _ width kind) = ⊥
+StoresToStack u Stops = ⊥
+StoresToStack u _ = Unit {0}
+
+-- It changes no byte of another region.
+abbrev pub OthersStand : Type 0
+OthersStand = (u : Runs) (place : Place) (insn : Insn) (kinds : ℕ → Kind) (parts : List StackPart) (s t left : State)
+    → AtNode u place insn kinds parts s t → StoresToStack u (asked_kinds u.regions.lens insn place kinds) → reached (step_of u.old_rights s) ≡ Some left
+    → (q o : ℕ) → o < length_of u.regions.lens q → q ≢ 1 → left.bytes (u.regions.old q + o) ≡ s.bytes (u.regions.old q + o)
 
 -- What holds at a place is of each kind, and of each part of the stack, that what is known there fits.
 abbrev pub EdgesServe : Type 0

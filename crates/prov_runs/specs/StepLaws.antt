@@ -1,5 +1,5 @@
 -- The law of lists of steps: two runs that stand at one node of a call go on alike, step for step.
-use Rattle.std.specs.Prelude.{ℕ, zero, suc, ◌≡◌, ◌≤◌, true, false, List, [], Option, Some, None}
+use Rattle.std.specs.Prelude.{ℕ, zero, suc, ◌≡◌, ◌≤◌, Bool, true, false, List, Option, Some, None}
 use Rattle.rv_decode.specs.declared.insn.Insn.{Insn}
 use Rattle.rv_step.specs.Exec.{Rights, State, step_of}
 use Rattle.prov_types.specs.declared.kinds.Kind.{Kind}
@@ -8,6 +8,7 @@ use Rattle.prov_types.specs.Kinds.{IsProperKind}
 use Rattle.prov_types.specs.Asked.{asked_kinds}
 use Rattle.prov_cert.specs.declared.cert.StackPart.{StackPart}
 use Rattle.prov_runs.specs.Sites.{target_at}
+use Rattle.prov_runs.specs.Memory.{converted}
 use Rattle.prov_runs.specs.States.{Related, StandAt}
 use Rattle.prov_runs.specs.FetchLaws.{IsInsnAt}
 use Rattle.prov_runs.specs.Steps.{AreRuns, Runs, reached}
@@ -22,8 +23,8 @@ unfoldable pub after_steps : Rights → ℕ → State → Option State
 after_steps rights zero s = Some s
 after_steps rights (suc n) s = and_on (after_steps rights n) (reached (step_of rights s))
 
--- what a certificate's rules say of a node of a call, with the instruction that stands there
-pub record IsJudged (u : Runs) (graph : Graph) (node : Known) : Type 0 where
+-- what a certificate's rules say of a node, with the instruction that stands there and the cells that are converted
+pub record IsJudged (u : Runs) (notified : Bool) (graph : Graph) (node : Known) : Type 0 where
   pub place : Place
   pub insn : Insn
   pub cells : List ℕ
@@ -32,10 +33,11 @@ pub record IsJudged (u : Runs) (graph : Graph) (node : Known) : Type 0 where
   pub is_insn : IsInsnAt u.laid u.image place.at place.len insn
   pub target_is : place.target ≡ target_at u.laid.sites place.at
   pub proper : (r : ℕ) → IsProperKind (node.kinds r)
-  pub passes : Passes u false cells graph next place insn node.kinds node.parts (asked_kinds u.regions.lens insn place node.kinds)
+  pub not_compared : u.done ≡ converted notified cells
+  pub passes : Passes u notified cells graph next place insn node.kinds node.parts (asked_kinds u.regions.lens insn place node.kinds)
 
 abbrev pub AreJudged : Runs → Graph → Type 0
-AreJudged u graph = (number : ℕ) (node : Known) → graph.nodes number ≡ Some node → IsJudged u graph node
+AreJudged u graph = (number : ℕ) (node : Known) → graph.nodes number ≡ Some node → IsJudged u false graph node
 
 -- both runs stand at one node
 pub record AtSomeNode (u : Runs) (graph : Graph) (s t : State) : Type 0 where
@@ -62,4 +64,4 @@ pub data GoAlike (u : Runs) (graph : Graph) (n : ℕ) (s t : State) : Type 0 whe
 
 -- Two runs that stand at a node of a call go on alike for any number of steps, where all nodes are judged.
 abbrev pub StepForStep : Type 0
-StepForStep = (u : Runs) (graph : Graph) (n : ℕ) (s t : State) → u.done ≡ [] → AreRuns u → AreEven u.regions graph → AreJudged u graph → AtSomeNode u graph s t → GoAlike u graph n s t
+StepForStep = (u : Runs) (graph : Graph) (n : ℕ) (s t : State) → AreRuns u → AreEven u.regions graph → AreJudged u graph → AtSomeNode u graph s t → GoAlike u graph n s t

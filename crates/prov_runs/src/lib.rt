@@ -9,5 +9,7 @@ mod stores;
 
 pub use fetches::{decoded_fits, fetches_alike};
 pub use loads::{joins_hold, loads_hold, reads_hold};
-pub use nodes::{edges_serve, jump_node, memory_node, one_node, register_node, step_for_step};
+pub use nodes::{
+    edges_serve, jump_node, memory_node, one_node, others_stand, register_node, step_for_step,
+};
 pub use stores::{regions_stay, stack_stores_keep, stores_keep};

@@ -1,7 +1,7 @@
 //! The laws of one step of two runs.
 #![tactic(auto)]
 
-ghost use Rattle.prov_runs.specs.NodeLaws.{EdgesServe, ForksAtNode, GoesAtNode, JumpsAtNode, LoadsAtNode, SetsAtNode, StoresAtNode};
+ghost use Rattle.prov_runs.specs.NodeLaws.{EdgesServe, ForksAtNode, GoesAtNode, JumpsAtNode, LoadsAtNode, OthersStand, SetsAtNode, StoresAtNode};
 ghost use Rattle.prov_runs.specs.OneNode.{OneNode};
 ghost use Rattle.prov_runs.specs.StepLaws.{StepForStep};
 
@@ -48,6 +48,17 @@ pub fn memory_node()
     reads_hold();
     stores_keep();
     stack_stores_keep();
+    regions_stay();
+}
+
+/// A step of an instruction that stores to the stack alone, or not at all, changes no byte of another region.
+pub fn others_stand()
+    ensures { OthersStand }
+{
+    fetches_alike();
+    asks_hold();
+    asks_fit();
+    asks_are_fit();
     regions_stay();
 }
 

@@ -1,0 +1,15 @@
+pub mod KindLemmas
+pub mod ReadLemmas
+pub mod EdgeLemmas
+pub mod PassLemmas
+pub mod CallLemmas
+pub mod EntryLemmas
+pub mod CellLemmas
+pub mod ConvertLemmas
+pub mod CountLemmas
+pub mod RuleLemmas
+pub mod FunctionLemmas
+pub mod ReturnLemmas
+pub mod EndLemmas
+pub mod BehindLemmas
+pub mod NotifyLemmas
