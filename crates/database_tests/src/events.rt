@@ -114,7 +114,7 @@ fn first_wrong(events: &mut Events, steps: &[Step]) -> Option<usize> {
 #[test]
 fn notifications_by_level_and_then_by_signals(rt: HostRuntime) -> Result<(), Fail> {
     let mut events = Events::new(rt.alloc(), Vec::new(rt.alloc()))?;
-    let steps = [
+    const STEPS: [Step; 21] = [
         Step::Make(0x200, 8, 24),
         Step::Make(0x200, 16, 40),
         Step::Make(0x200, 8, 56),
@@ -138,7 +138,7 @@ fn notifications_by_level_and_then_by_signals(rt: HostRuntime) -> Result<(), Fai
         Step::Next(4, 24, 8),
         Step::Nothing(0),
     ];
-    assert_eq!(rt; first_wrong(&mut events, &steps), None);
+    assert_eq!(rt; first_wrong(&mut events, &STEPS), None);
     Ok(())
 }
 
@@ -148,7 +148,7 @@ const INVALID: Result<u64, EventRefusal> = Err(EventRefusal::Invalid);
 #[test]
 fn types_that_are_made(rt: HostRuntime) -> Result<(), Fail> {
     let mut events = Events::new(rt.alloc(), Vec::new(rt.alloc()))?;
-    let steps = [
+    const STEPS: [Step; 13] = [
         Step::Create(0, 0, 0, None, Ok(24)),
         Step::Create(0, u64::MAX, 0, Some(GROUP), Ok(40)),
         Step::Create(0x8000_0000, 31, 0, None, Ok(56)),
@@ -163,14 +163,14 @@ fn types_that_are_made(rt: HostRuntime) -> Result<(), Fail> {
         Step::Create(0x201, 8, 1, None, Ok(200)),
         Step::Create(0x6000_0202, 30, 1, None, Ok(216)),
     ];
-    assert_eq!(rt; first_wrong(&mut events, &steps), None);
+    assert_eq!(rt; first_wrong(&mut events, &STEPS), None);
     Ok(())
 }
 
 #[test]
 fn types_that_are_refused(rt: HostRuntime) -> Result<(), Fail> {
     let mut events = Events::new(rt.alloc(), Vec::new(rt.alloc()))?;
-    let steps = [
+    const STEPS: [Step; 25] = [
         Step::Create(0x201, 8, 1, Some(GROUP), INVALID),
         Step::Create(0x6000_0202, 8, 1, Some(VIRTUAL_GROUP), INVALID),
         Step::Create(0x300, 8, 1, None, INVALID),
@@ -197,7 +197,7 @@ fn types_that_are_refused(rt: HostRuntime) -> Result<(), Fail> {
         Step::Create(0xffff_ffff, 8, 1, None, INVALID),
         Step::Make(0, 0, 24),
     ];
-    assert_eq!(rt; first_wrong(&mut events, &steps), None);
+    assert_eq!(rt; first_wrong(&mut events, &STEPS), None);
     Ok(())
 }
 
@@ -210,7 +210,7 @@ fn at_most_256_events_live(rt: HostRuntime) -> Result<(), Fail> {
     for k in 1..257 {
         assert!(rt; goes(&mut events, Step::Signal(16 * k + 8, true)));
     }
-    let steps = [
+    const STEPS: [Step; 11] = [
         Step::Create(0, 0, 0, None, Err(EventRefusal::Full)),
         Step::Create(1, 0, 0, None, INVALID),
         Step::Close(40, true),
@@ -223,7 +223,7 @@ fn at_most_256_events_live(rt: HostRuntime) -> Result<(), Fail> {
         Step::Next(7, 56, 8),
         Step::Next(7, 72, 8),
     ];
-    assert_eq!(rt; first_wrong(&mut events, &steps), None);
+    assert_eq!(rt; first_wrong(&mut events, &STEPS), None);
     Ok(())
 }
 
@@ -242,21 +242,21 @@ fn numbers_that_are_no_event(rt: HostRuntime) -> Result<(), Fail> {
         ];
         assert_eq!(rt; first_wrong(&mut events, &steps), None, "{number}");
     }
-    let steps = [
+    const STEPS: [Step; 5] = [
         Step::Known(24, true),
         Step::Timer(24, 3, 0, 0, false),
         Step::Timer(24, u32::MAX, 0, 0, false),
         Step::Make(0x200, 8, 40),
         Step::Timer(40, 2, 0, 0, false),
     ];
-    assert_eq!(rt; first_wrong(&mut events, &steps), None);
+    assert_eq!(rt; first_wrong(&mut events, &STEPS), None);
     Ok(())
 }
 
 #[test]
 fn checks_and_closed_events(rt: HostRuntime) -> Result<(), Fail> {
     let mut events = Events::new(rt.alloc(), Vec::new(rt.alloc()))?;
-    let steps = [
+    const STEPS: [Step; 29] = [
         Step::Make(0, 0, 24),
         Step::Make(0x100, 8, 40),
         Step::Make(0x200, 8, 56),
@@ -289,14 +289,14 @@ fn checks_and_closed_events(rt: HostRuntime) -> Result<(), Fail> {
         Step::Next(4, 40, 8),
         Step::Nothing(4),
     ];
-    assert_eq!(rt; first_wrong(&mut events, &steps), None);
+    assert_eq!(rt; first_wrong(&mut events, &STEPS), None);
     Ok(())
 }
 
 #[test]
 fn a_group_with_a_signalled_member(rt: HostRuntime) -> Result<(), Fail> {
     let mut events = Events::new(rt.alloc(), Vec::new(rt.alloc()))?;
-    let steps = [
+    const STEPS: [Step; 17] = [
         Step::Join(0x200, 8, 24),
         Step::Make(0x200, 8, 40),
         Step::Join(0, 0, 56),
@@ -317,7 +317,7 @@ fn a_group_with_a_signalled_member(rt: HostRuntime) -> Result<(), Fail> {
         Step::Next(4, 72, 8),
         Step::Nothing(4),
     ];
-    assert_eq!(rt; first_wrong(&mut events, &steps), None);
+    assert_eq!(rt; first_wrong(&mut events, &STEPS), None);
     Ok(())
 }
 
@@ -326,7 +326,7 @@ fn timers_at_tick_moments(rt: HostRuntime) -> Result<(), Fail> {
     // 20,000 is a listed moment and a multiple.
     let ticks = Vec::from_array(rt.alloc(), [3, 20_000])?;
     let mut events = Events::new(rt.alloc(), ticks)?;
-    let steps = [
+    const STEPS: [Step; 30] = [
         Step::Make(0x8000_0200, 16, 24),
         Step::Moment(0, None),
         Step::Timer(24, 2, 0, 2, true),
@@ -359,7 +359,7 @@ fn timers_at_tick_moments(rt: HostRuntime) -> Result<(), Fail> {
         Step::Timer(24, 0, 0, 60_000, true),
         Step::Moment(60_000, None),
     ];
-    assert_eq!(rt; first_wrong(&mut events, &steps), None);
+    assert_eq!(rt; first_wrong(&mut events, &STEPS), None);
     Ok(())
 }
 
@@ -367,7 +367,7 @@ fn timers_at_tick_moments(rt: HostRuntime) -> Result<(), Fail> {
 fn periods_of_nothing_and_timers_that_stop(rt: HostRuntime) -> Result<(), Fail> {
     // Listed moments may come in any order.
     let mut events = Events::new(rt.alloc(), Vec::from_array(rt.alloc(), [5, 3])?)?;
-    let steps = [
+    const STEPS: [Step; 17] = [
         Step::Make(0x8000_0000, 0, 24),
         Step::Make(0x8000_0000, 0, 40),
         Step::Timer(24, 1, 0, 0, true),
@@ -386,7 +386,7 @@ fn periods_of_nothing_and_timers_that_stop(rt: HostRuntime) -> Result<(), Fail> 
         Step::Take(24, false),
         Step::Take(40, false),
     ];
-    assert_eq!(rt; first_wrong(&mut events, &steps), None);
+    assert_eq!(rt; first_wrong(&mut events, &STEPS), None);
     Ok(())
 }
 
@@ -394,7 +394,7 @@ fn periods_of_nothing_and_timers_that_stop(rt: HostRuntime) -> Result<(), Fail> 
 fn moments_at_the_end_of_time(rt: HostRuntime) -> Result<(), Fail> {
     // 2^64 - 1 is 18,446,744,073,709,551,615, so the last multiple of 10,000 ends in 550,000.
     let mut events = Events::new(rt.alloc(), Vec::from_array(rt.alloc(), [u64::MAX])?)?;
-    let steps = [
+    const STEPS: [Step; 10] = [
         Step::Make(0x8000_0200, 16, 24),
         Step::Timer(24, 1, u64::MAX, 5, true),
         Step::Moment(0, Some(u64::MAX)),
@@ -406,9 +406,9 @@ fn moments_at_the_end_of_time(rt: HostRuntime) -> Result<(), Fail> {
         Step::Tick(u64::MAX, false),
         Step::Moment(0, None),
     ];
-    assert_eq!(rt; first_wrong(&mut events, &steps), None);
+    assert_eq!(rt; first_wrong(&mut events, &STEPS), None);
     let mut events = Events::new(rt.alloc(), Vec::new(rt.alloc()))?;
-    let steps = [
+    const LAST_STEPS: [Step; 6] = [
         Step::Make(0x8000_0000, 0, 24),
         Step::Timer(24, 2, 0, 18_446_744_073_709_550_001, true),
         Step::Moment(0, None),
@@ -416,7 +416,7 @@ fn moments_at_the_end_of_time(rt: HostRuntime) -> Result<(), Fail> {
         Step::Moment(0, Some(18_446_744_073_709_550_000)),
         Step::Moment(u64::MAX, None),
     ];
-    assert_eq!(rt; first_wrong(&mut events, &steps), None);
+    assert_eq!(rt; first_wrong(&mut events, &LAST_STEPS), None);
     Ok(())
 }
 
@@ -430,7 +430,7 @@ fn calls_are(calls: Result<Vec<Notify>, AllocError>, wanted: &[Notify]) -> bool 
 #[test]
 fn the_kept_group_comes_by_falling_level(rt: HostRuntime) -> Result<(), Fail> {
     let mut events = Events::new(rt.alloc(), Vec::new(rt.alloc()))?;
-    let steps = [
+    const STEPS: [Step; 8] = [
         Step::Make(0x201, 8, 24),
         Step::Make(0x201, 16, 40),
         Step::Make(0x6000_0202, 30, 56),
@@ -440,10 +440,10 @@ fn the_kept_group_comes_by_falling_level(rt: HostRuntime) -> Result<(), Fail> {
         Step::Make(0x200, 30, 120),
         Step::Signal(56, true),
     ];
-    assert_eq!(rt; first_wrong(&mut events, &steps), None);
+    assert_eq!(rt; first_wrong(&mut events, &STEPS), None);
     let wanted = [notify(40, 16), notify(24, 8), notify(72, 8)];
     assert!(rt; calls_are(events.keep_group(&EXIT_GROUP), &wanted));
-    let steps = [
+    const LEFT_STEPS: [Step; 6] = [
         Step::Nothing(0),
         Step::Known(56, false),
         Step::Known(88, false),
@@ -451,7 +451,7 @@ fn the_kept_group_comes_by_falling_level(rt: HostRuntime) -> Result<(), Fail> {
         Step::Known(120, false),
         Step::Known(24, true),
     ];
-    assert_eq!(rt; first_wrong(&mut events, &steps), None);
+    assert_eq!(rt; first_wrong(&mut events, &LEFT_STEPS), None);
     assert!(rt; calls_are(events.keep_group(&VIRTUAL_GROUP), &[]));
     assert!(rt; goes(&mut events, Step::Known(24, false)));
     Ok(())

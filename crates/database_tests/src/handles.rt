@@ -40,16 +40,21 @@ fn handles_in_order_of_making(rt: HostRuntime) -> Result<(), Fail> {
 fn pairs_are_installed_all_or_none(rt: HostRuntime) -> Result<(), Fail> {
     let mut handles = Handles::new(rt.alloc());
     // Handle, GUID and interface twice, answer.
-    let invalid = Err(HandleRefusal::Invalid);
-    let rows = [
+    const INVALID: Result<Option<u64>, HandleRefusal> = Err(HandleRefusal::Invalid);
+    const ROWS: [(
+        Option<u64>,
+        (u32, u64),
+        (u32, u64),
+        Result<Option<u64>, HandleRefusal>,
+    ); 6] = [
         (None, (1, 8), (2, 9), Ok(Some(16))),
-        (Some(17), (3, 8), (4, 9), invalid),
-        (None, (3, 8), (3, 9), invalid),
-        (Some(16), (3, 8), (2, 9), invalid),
+        (Some(17), (3, 8), (4, 9), INVALID),
+        (None, (3, 8), (3, 9), INVALID),
+        (Some(16), (3, 8), (2, 9), INVALID),
         (Some(16), (4, 8), (3, 8), Ok(Some(16))),
         (None, (5, 0), (3, 0), Ok(Some(32))),
     ];
-    for (handle, (first, one), (second, other), wanted) in rows {
+    for (handle, (first, one), (second, other), wanted) in ROWS {
         let pairs = [(guid(first), one), (guid(second), other)];
         assert_eq!(rt; handles.install_all(handle, &pairs), wanted);
     }
@@ -69,7 +74,7 @@ fn what_is_taken_away_is_gone(rt: HostRuntime) -> Result<(), Fail> {
     let mut handles = Handles::new(rt.alloc());
     assert_eq!(rt; handles.install(None, guid(1), 8), Ok(16));
     assert_eq!(rt; handles.install(Some(16), guid(2), 9), Ok(16));
-    let rows = [
+    const ROWS: [(u64, u32, u64, Result<(), HandleRefusal>); 7] = [
         (17, 1, 8, Err(HandleRefusal::Invalid)),
         (16, 1, 9, Err(HandleRefusal::NotFound)),
         (16, 3, 8, Err(HandleRefusal::NotFound)),
@@ -78,7 +83,7 @@ fn what_is_taken_away_is_gone(rt: HostRuntime) -> Result<(), Fail> {
         (16, 2, 9, Ok(())),
         (16, 2, 9, Err(HandleRefusal::Invalid)),
     ];
-    for (handle, number, interface, wanted) in rows {
+    for (handle, number, interface, wanted) in ROWS {
         assert_eq!(rt; handles.remove(handle, &guid(number), interface), wanted);
     }
     assert!(rt; !handles.is_handle(16));

@@ -67,31 +67,34 @@ fn a_driver_keeps_its_protocol(rt: HostRuntime) -> Result<(), Fail> {
     Ok(())
 }
 
+/// What OpenProtocol answers.
+type Opened = Result<u64, ProtocolRefusal>;
+
 /// The attributes of OpenProtocol.
 const ATTRIBUTES: [u32; 7] = [1, 2, 4, 8, 0x10, 0x20, 0x30];
 
 #[test]
 fn attribute_by_entry_present(rt: HostRuntime) -> Result<(), Fail> {
-    let ok = Ok(8);
-    let started = Err(ProtocolRefusal::AlreadyStarted);
-    let denied = Err(ProtocolRefusal::AccessDenied);
-    let free = [ok, ok, ok, ok, ok, ok, ok];
-    let alone = [ok, ok, ok, ok, denied, denied, denied];
+    const OK: Opened = Ok(8);
+    const STARTED: Opened = Err(ProtocolRefusal::AlreadyStarted);
+    const DENIED: Opened = Err(ProtocolRefusal::AccessDenied);
+    const FREE: [Opened; 7] = [OK, OK, OK, OK, OK, OK, OK];
+    const ALONE: [Opened; 7] = [OK, OK, OK, OK, DENIED, DENIED, DENIED];
     // What is there, by agent 32 for controller 48; then what each attribute is answered, for these and for agent 48.
-    let rows = [
-        (1, free, free),
-        (2, free, free),
-        (4, free, free),
-        (8, free, free),
-        (0x10, [ok, ok, ok, ok, started, denied, denied], alone),
-        (0x20, alone, alone),
-        (0x30, [ok, ok, ok, ok, denied, denied, started], alone),
+    const ROWS: [(u32, [Opened; 7], [Opened; 7]); 7] = [
+        (1, FREE, FREE),
+        (2, FREE, FREE),
+        (4, FREE, FREE),
+        (8, FREE, FREE),
+        (0x10, [OK, OK, OK, OK, STARTED, DENIED, DENIED], ALONE),
+        (0x20, ALONE, ALONE),
+        (0x30, [OK, OK, OK, OK, DENIED, DENIED, STARTED], ALONE),
     ];
-    for (present, same, other) in rows {
+    for (present, same, other) in ROWS {
         for (agent, wanted) in [(32, same), (48, other)] {
             for (attributes, answer) in ATTRIBUTES.iter().zip(wanted.iter()) {
                 let mut protocols = three_handles(&rt)?;
-                assert_eq!(rt; protocols.open_protocol(&request(32, 48, present)), ok);
+                assert_eq!(rt; protocols.open_protocol(&request(32, 48, present)), OK);
                 assert_eq!(rt;
                     protocols.open_protocol(&request(agent, 48, *attributes)),
                     *answer
@@ -104,33 +107,33 @@ fn attribute_by_entry_present(rt: HostRuntime) -> Result<(), Fail> {
 
 #[test]
 fn what_an_open_asks_for(rt: HostRuntime) -> Result<(), Fail> {
-    let invalid = Err(ProtocolRefusal::Invalid);
-    let unsupported = Err(ProtocolRefusal::Unsupported);
+    const INVALID: Opened = Err(ProtocolRefusal::Invalid);
+    const UNSUPPORTED: Opened = Err(ProtocolRefusal::Unsupported);
     // Handle, GUID, agent, controller, attributes.
-    let rows = [
-        (17, 1, 32, 48, 2, invalid),
-        (16, 1, 32, 48, 0, invalid),
-        (16, 1, 32, 48, 3, invalid),
-        (16, 1, 32, 48, 0x40, invalid),
-        (16, 1, 32, 48, 0x18, invalid),
+    const ROWS: [(u64, u32, u64, u64, u32, Opened); 21] = [
+        (17, 1, 32, 48, 2, INVALID),
+        (16, 1, 32, 48, 0, INVALID),
+        (16, 1, 32, 48, 3, INVALID),
+        (16, 1, 32, 48, 0x40, INVALID),
+        (16, 1, 32, 48, 0x18, INVALID),
         (16, 1, 33, 49, 1, Ok(8)),
         (16, 1, 33, 49, 2, Ok(8)),
         (16, 1, 33, 49, 4, Ok(8)),
-        (16, 1, 33, 48, 8, invalid),
-        (16, 1, 33, 48, 0x10, invalid),
-        (16, 1, 33, 48, 0x20, invalid),
-        (16, 1, 33, 48, 0x30, invalid),
-        (16, 1, 32, 49, 8, invalid),
-        (16, 1, 32, 49, 0x10, invalid),
+        (16, 1, 33, 48, 8, INVALID),
+        (16, 1, 33, 48, 0x10, INVALID),
+        (16, 1, 33, 48, 0x20, INVALID),
+        (16, 1, 33, 48, 0x30, INVALID),
+        (16, 1, 32, 49, 8, INVALID),
+        (16, 1, 32, 49, 0x10, INVALID),
         (16, 1, 32, 49, 0x20, Ok(8)),
-        (16, 1, 32, 49, 0x30, invalid),
-        (16, 1, 32, 16, 8, invalid),
+        (16, 1, 32, 49, 0x30, INVALID),
+        (16, 1, 32, 16, 8, INVALID),
         (16, 1, 32, 16, 0x10, Ok(8)),
-        (16, 2, 32, 48, 4, unsupported),
-        (16, 2, 32, 16, 8, invalid),
-        (16, 2, 32, 48, 0x10, unsupported),
+        (16, 2, 32, 48, 4, UNSUPPORTED),
+        (16, 2, 32, 16, 8, INVALID),
+        (16, 2, 32, 48, 0x10, UNSUPPORTED),
     ];
-    for (handle, number, agent, controller, attributes, wanted) in rows {
+    for (handle, number, agent, controller, attributes, wanted) in ROWS {
         let mut protocols = three_handles(&rt)?;
         let asked = OpenRequest {
             handle,
@@ -165,7 +168,7 @@ fn entries_are_counted_and_closed_together(rt: HostRuntime) -> Result<(), Fail> 
         assert_eq!(rt; *entry, wanted);
     }
     assert_eq!(rt; given.len(), 3);
-    let rows = [
+    const ROWS: [(u64, u32, u64, u64, Result<(), ProtocolRefusal>); 7] = [
         (17, 1, 32, 16, Err(ProtocolRefusal::Invalid)),
         (16, 1, 33, 16, Err(ProtocolRefusal::Invalid)),
         (16, 1, 32, 17, Err(ProtocolRefusal::Invalid)),
@@ -174,7 +177,7 @@ fn entries_are_counted_and_closed_together(rt: HostRuntime) -> Result<(), Fail> 
         (16, 1, 32, 16, Ok(())),
         (16, 1, 32, 16, Err(ProtocolRefusal::NotFound)),
     ];
-    for (handle, number, agent, controller, wanted) in rows {
+    for (handle, number, agent, controller, wanted) in ROWS {
         assert_eq!(rt;
             protocols.close_protocol(handle, &guid(number), agent, controller),
             wanted
@@ -235,16 +238,16 @@ fn pairs_are_installed_together(rt: HostRuntime) -> Result<(), Fail> {
 #[test]
 fn pairs_are_taken_together(rt: HostRuntime) -> Result<(), Fail> {
     let there = [(guid(1), 5), (guid(2), 6)];
-    let invalid = Err(ProtocolRefusal::Invalid);
-    let missing = Err(ProtocolRefusal::NotFound);
+    const INVALID: Result<(), ProtocolRefusal> = Err(ProtocolRefusal::Invalid);
+    const MISSING: Result<(), ProtocolRefusal> = Err(ProtocolRefusal::NotFound);
     // The handle; three pairs, by the GUID's number and the interface. It goes with its last protocol.
-    let rows = [
-        (17, [(1, 5), (2, 6), (2, 6)], invalid),
-        (16, [(1, 5), (1, 5), (2, 6)], missing),
-        (16, [(1, 5), (2, 5), (2, 6)], missing),
-        (16, [(2, 6), (1, 5), (1, 5)], invalid),
+    const ROWS: [(u64, [(u32, u64); 3], Result<(), ProtocolRefusal>); 4] = [
+        (17, [(1, 5), (2, 6), (2, 6)], INVALID),
+        (16, [(1, 5), (1, 5), (2, 6)], MISSING),
+        (16, [(1, 5), (2, 5), (2, 6)], MISSING),
+        (16, [(2, 6), (1, 5), (1, 5)], INVALID),
     ];
-    for (handle, [first, second, third], wanted) in rows {
+    for (handle, [first, second, third], wanted) in ROWS {
         let mut protocols = Protocols::new(rt.alloc());
         assert_eq!(rt; protocols.install_all(None, &there)?.handle, Some(16));
         let pairs = [

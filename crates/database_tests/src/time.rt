@@ -34,7 +34,7 @@ fn bytes_of_a_time(rt: HostRuntime) -> Result<(), Fail> {
 #[test]
 fn bytes_at_the_edges(rt: HostRuntime) -> Result<(), Fail> {
     // an offset, the byte that stands there in place of the one in BYTES, and whether the time is valid
-    let rows = [
+    const ROWS: [(usize, u8, bool); 20] = [
         (0, 0xe9, false),
         (0, 0xec, true),
         (1, 0x27, false),
@@ -56,7 +56,7 @@ fn bytes_at_the_edges(rt: HostRuntime) -> Result<(), Fail> {
         (14, 4, false),
         (14, 0, true),
     ];
-    for (at, byte, valid) in rows {
+    for (at, byte, valid) in ROWS {
         let mut bytes = BYTES;
         if let Some(place) = bytes.get_mut(at) {
             *place = byte;
@@ -68,7 +68,7 @@ fn bytes_at_the_edges(rt: HostRuntime) -> Result<(), Fail> {
 
 #[test]
 fn zones(rt: HostRuntime) -> Result<(), Fail> {
-    let rows = [
+    const ROWS: [(i16, bool); 9] = [
         (0, true),
         (1440, true),
         (1441, false),
@@ -79,7 +79,7 @@ fn zones(rt: HostRuntime) -> Result<(), Fail> {
         (2048, false),
         (i16::MIN, false),
     ];
-    for (time_zone, valid) in rows {
+    for (time_zone, valid) in ROWS {
         let time = EfiTime { time_zone, ..TIME };
         assert_eq!(rt; time.is_valid(), valid);
     }
@@ -88,7 +88,7 @@ fn zones(rt: HostRuntime) -> Result<(), Fail> {
 
 #[test]
 fn days_of_the_calendar(rt: HostRuntime) -> Result<(), Fail> {
-    let rows = [
+    const ROWS: [(u16, u8, u8, bool); 15] = [
         (1899, 12, 31, false),
         (1900, 1, 1, true),
         (1900, 2, 28, true),
@@ -105,7 +105,7 @@ fn days_of_the_calendar(rt: HostRuntime) -> Result<(), Fail> {
         (9999, 12, 31, true),
         (10000, 1, 1, false),
     ];
-    for (year, month, day, valid) in rows {
+    for (year, month, day, valid) in ROWS {
         let time = EfiTime {
             year,
             month,
@@ -119,7 +119,7 @@ fn days_of_the_calendar(rt: HostRuntime) -> Result<(), Fail> {
 
 #[test]
 fn texts(rt: HostRuntime) -> Result<(), Fail> {
-    let rows = [
+    const ROWS: [(&str, bool); 18] = [
         ("2024-01-01T00:00:00", true),
         ("1900-01-01T00:00:00", true),
         ("1899-12-31T23:59:59", false),
@@ -139,7 +139,7 @@ fn texts(rt: HostRuntime) -> Result<(), Fail> {
         ("2024-0:-01T00:00:00", false),
         ("", false),
     ];
-    for (text, read) in rows {
+    for (text, read) in ROWS {
         assert_eq!(rt; Clock::at(text).is_some(), read);
     }
     Ok(())
@@ -156,7 +156,7 @@ fn moment_after(text: &str, now: u64) -> Option<EfiTime> {
 #[test]
 fn moments(rt: HostRuntime) -> Result<(), Fail> {
     // a text, a moment in units of 100 ns, and the bytes of the time then
-    let rows = [
+    const ROWS: [(&str, u64, [u8; 16]); 8] = [
         (
             "2024-02-28T23:59:59",
             0,
@@ -200,7 +200,7 @@ fn moments(rt: HostRuntime) -> Result<(), Fail> {
             [0xd0, 7, 1, 1, 0, 0, 0, 0, 0, 0, 0, 0, 0xff, 7, 0, 0],
         ),
     ];
-    for (text, now, wanted) in rows {
+    for (text, now, wanted) in ROWS {
         let time = moment_after(text, now);
         assert_eq!(rt; time.map(|time| time.to_bytes()), Some(wanted));
     }
@@ -209,13 +209,13 @@ fn moments(rt: HostRuntime) -> Result<(), Fail> {
 
 #[test]
 fn the_end_of_9999(rt: HostRuntime) -> Result<(), Fail> {
-    let rows = [
+    const ROWS: [(u64, bool); 4] = [
         (0, true),
         (9_999_999, true),
         (10_000_000, false),
         (u64::MAX, false),
     ];
-    for (now, shown) in rows {
+    for (now, shown) in ROWS {
         let time = Clock::at("9999-12-31T23:59:59").and_then(|clock| clock.moment(now));
         assert_eq!(rt; time.is_some(), shown);
     }

@@ -34,7 +34,7 @@ fn data_at(variables: &Variables, place: usize) -> &[u8] {
 fn sets_before_the_end_of_boot_services(rt: HostRuntime) -> Result<(), Fail> {
     let mut variables = Variables::new(rt.alloc());
     // a name, attributes, bytes, the answer, and the bytes of `A` and the room behind it
-    let rows: [(&[u16], u32, &[u8], Result<(), VarRefusal>, &[u8], u64); 17] = [
+    const ROWS: [(&[u16], u32, &[u8], Result<(), VarRefusal>, &[u8], u64); 17] = [
         (A, 7, &[1, 2], Ok(()), &[1, 2], 65_498),
         (&[], 7, &[1], Err(VarRefusal::Invalid), &[1, 2], 65_498),
         (A, 0x87, &[1], Err(VarRefusal::Unsupported), &[1, 2], 65_498),
@@ -53,7 +53,7 @@ fn sets_before_the_end_of_boot_services(rt: HostRuntime) -> Result<(), Fail> {
         (A, 3, &[], Ok(()), &[], 65_536),
         (A, 7, &[], Err(VarRefusal::NotFound), &[], 65_536),
     ];
-    for (name, attributes, bytes, answer, wanted, room) in rows {
+    for (name, attributes, bytes, answer, wanted, room) in ROWS {
         assert_eq!(rt;
             variables.set(name, &GLOBAL, attributes, bytes, false),
             answer
@@ -68,12 +68,12 @@ fn sets_before_the_end_of_boot_services(rt: HostRuntime) -> Result<(), Fail> {
 #[test]
 fn sets_after_the_end_of_boot_services(rt: HostRuntime) -> Result<(), Fail> {
     let mut variables = Variables::new(rt.alloc());
-    let names: [&[u16]; 4] = [&[1], &[2], &[3], &[4]];
+    const NAMES: [&[u16]; 4] = [&[1], &[2], &[3], &[4]];
     // the first is kept and seen, the second kept and not seen, the third volatile and seen
-    assert_eq!(rt; variables.set(names[0], &GLOBAL, 7, &[1], false), Ok(()));
-    assert_eq!(rt; variables.set(names[1], &GLOBAL, 3, &[1], false), Ok(()));
-    assert_eq!(rt; variables.set(names[2], &GLOBAL, 6, &[1], false), Ok(()));
-    let rows: [(usize, u32, &[u8], Result<(), VarRefusal>); 15] = [
+    assert_eq!(rt; variables.set(NAMES[0], &GLOBAL, 7, &[1], false), Ok(()));
+    assert_eq!(rt; variables.set(NAMES[1], &GLOBAL, 3, &[1], false), Ok(()));
+    assert_eq!(rt; variables.set(NAMES[2], &GLOBAL, 6, &[1], false), Ok(()));
+    const ROWS: [(usize, u32, &[u8], Result<(), VarRefusal>); 15] = [
         (0, 7, &[2], Ok(())),
         (0, 0x47, &[3], Ok(())),
         (0, 3, &[3], Err(VarRefusal::Invalid)),
@@ -90,17 +90,17 @@ fn sets_after_the_end_of_boot_services(rt: HostRuntime) -> Result<(), Fail> {
         (3, 7, &[2], Ok(())),
         (0, 0, &[9], Ok(())),
     ];
-    for (name, attributes, bytes, answer) in rows {
-        let name = names.get(name).copied().unwrap_or(&[]);
+    for (name, attributes, bytes, answer) in ROWS {
+        let name = NAMES.get(name).copied().unwrap_or(&[]);
         assert_eq!(rt;
             variables.set(name, &GLOBAL, attributes, bytes, true),
             answer
         );
     }
-    assert_eq!(rt; variables.find(names[0], &GLOBAL, false), None);
-    assert_eq!(rt; variables.find(names[1], &GLOBAL, true), None);
-    assert_eq!(rt; variables.find(names[1], &GLOBAL, false), Some(0));
-    assert_eq!(rt; variables.find(names[3], &GLOBAL, true), Some(2));
+    assert_eq!(rt; variables.find(NAMES[0], &GLOBAL, false), None);
+    assert_eq!(rt; variables.find(NAMES[1], &GLOBAL, true), None);
+    assert_eq!(rt; variables.find(NAMES[1], &GLOBAL, false), Some(0));
+    assert_eq!(rt; variables.find(NAMES[3], &GLOBAL, true), Some(2));
     assert_eq!(rt; data_at(&variables, 1), &[1][..]);
     Ok(())
 }
@@ -112,7 +112,7 @@ fn names_and_vendors(rt: HostRuntime) -> Result<(), Fail> {
     assert_eq!(rt; variables.set(A, &OTHER, 6, &[1], false), Ok(()));
     assert_eq!(rt; variables.set(A, &GLOBAL, 2, &[2], false), Ok(()));
     assert_eq!(rt; variables.set(B, &GLOBAL, 7, &[3], false), Ok(()));
-    let rows: [(&[u16], &Guid, bool, Result<Option<usize>, VarRefusal>); 8] = [
+    const ROWS: [(&[u16], &Guid, bool, Result<Option<usize>, VarRefusal>); 8] = [
         (&[], &GLOBAL, false, Ok(Some(0))),
         (A, &OTHER, false, Ok(Some(1))),
         (A, &GLOBAL, false, Ok(Some(2))),
@@ -122,7 +122,7 @@ fn names_and_vendors(rt: HostRuntime) -> Result<(), Fail> {
         (A, &OTHER, true, Ok(Some(2))),
         (A, &GLOBAL, true, Err(VarRefusal::Invalid)),
     ];
-    for (name, vendor, runtime, answer) in rows {
+    for (name, vendor, runtime, answer) in ROWS {
         assert_eq!(rt; variables.next_index(name, vendor, runtime), answer);
     }
     assert_eq!(rt; variables.at(3).is_none(), true);
@@ -227,9 +227,9 @@ fn variables_that_outlive_a_run(rt: HostRuntime) -> Result<(), Fail> {
 #[test]
 fn stores_that_are_cut(rt: HostRuntime) -> Result<(), Fail> {
     // where each field begins
-    let fields = [0, 4, 8, 24, 28, 32, 36, 38, 40, 56, 60, 64, 68, 70];
+    const FIELDS: [usize; 14] = [0, 4, 8, 24, 28, 32, 36, 38, 40, 56, 60, 64, 68, 70];
     for length in 0..71 {
-        let first = fields.iter().rev().find(|field| **field <= length).copied();
+        let first = FIELDS.iter().rev().find(|field| **field <= length).copied();
         let cut = STORE.get(..length).unwrap_or(&[]);
         assert_eq!(rt; fault_of(&rt, cut), first.map(StoreFault::At));
     }
@@ -240,7 +240,7 @@ fn stores_that_are_cut(rt: HostRuntime) -> Result<(), Fail> {
 #[test]
 fn stores_out_of_form(rt: HostRuntime) -> Result<(), Fail> {
     // two bytes, each by its offset, and the offset of the fault
-    let rows = [
+    const ROWS: [((usize, u8), (usize, u8), usize); 20] = [
         ((0, 0x54), (0, 0x54), 0),
         ((3, 0x32), (3, 0x32), 0),
         ((4, 3), (4, 3), 71),
@@ -262,7 +262,7 @@ fn stores_out_of_form(rt: HostRuntime) -> Result<(), Fail> {
         ((64, 0xb6), (65, 0xff), 70),
         ((68, 0x41), (68, 0x41), 68),
     ];
-    for ((first, byte), (second, other), fault) in rows {
+    for ((first, byte), (second, other), fault) in ROWS {
         let mut bytes = STORE;
         if let Some(place) = bytes.get_mut(first) {
             *place = byte;

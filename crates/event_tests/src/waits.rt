@@ -10,10 +10,10 @@ use guest_call::number_seen;
 use std::test::Fail;
 use uh_base::EfiStatus;
 
-/// The list of two events, and the index.
+/// The list of events, and the index.
 const LIST: u64 = 0x110000;
 
-const INDEX: u64 = 0x110100;
+const INDEX: u64 = 0x111000;
 
 #[test]
 fn the_first_that_decides_is_told(rt: HostRuntime) -> Result<(), Fail> {
@@ -28,7 +28,6 @@ fn the_first_that_decides_is_told(rt: HostRuntime) -> Result<(), Fail> {
     let invalid = Awaited::Answers(EfiStatus::INVALID_PARAMETER.0);
     let rows = [
         (0, 4, 24, 40, invalid, 9),
-        (257, 4, 24, 40, invalid, 9),
         (2, 8, 24, 40, Awaited::Answers(EfiStatus::UNSUPPORTED.0), 9),
         (0, 8, 24, 40, invalid, 9),
         (1, 4, 24, 40, Awaited::GoesOn, 9),
@@ -47,6 +46,35 @@ fn the_first_that_decides_is_told(rt: HostRuntime) -> Result<(), Fail> {
         assert_eq!(rt; told, answer);
         assert_eq!(rt; number_seen(&memory, &view, INDEX, 8), index);
     }
+    Ok(())
+}
+
+#[test]
+fn at_most_256_events_are_waited_for(rt: HostRuntime) -> Result<(), Fail> {
+    let alloc = rt.alloc();
+    let mut memory = fresh(alloc)?;
+    let view = plain(alloc)?;
+    let mut events = Events::new(alloc, Vec::new(alloc))?;
+    assert!(rt; events.create(0, 0, 0, 0, None).is_ok());
+    assert!(rt; events.create(0, 0, 0, 0, None).is_ok());
+    assert!(rt; events.signal(40).is_ok());
+    for place in 0..257 {
+        assert!(rt;
+            put(
+                &mut memory,
+                &view,
+                LIST + 8 * place,
+                if place < 255 { 24 } else { 40 }
+            )
+        );
+    }
+    let invalid = Awaited::Answers(EfiStatus::INVALID_PARAMETER.0);
+    for (count, answer) in [(257, invalid), (256, Awaited::Answers(0))] {
+        let wait = call([count, LIST, INDEX, 0, 0, 0]);
+        let told = wait_for_event(&wait, 4, &view, &mut memory, &mut events)?;
+        assert_eq!(rt; told, answer);
+    }
+    assert_eq!(rt; number_seen(&memory, &view, INDEX, 8), 255);
     Ok(())
 }
 

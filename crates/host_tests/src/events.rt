@@ -228,8 +228,9 @@ image = \"events\"
 
 /// At 23 units of time it jumps to RaiseTPL, with a timer that is due; the notification prints a line.
 const ORDER: &str = "
+ram_pages = 256
 trace = true
-ticks = [TICK]
+ticks = [TICKS]
 [[image]]
 name = \"order\"
 text = \"\"\"
@@ -289,24 +290,45 @@ fn guests_are_notified_as_the_standard_says(rt: HostRuntime) -> Result<(), Fail>
     Ok(())
 }
 
+/// The timer is set at 20 units, and RaiseTPL answers at 24. A tick between them is told before, up to the last jump, at 33,
+/// one is told behind, and no other one is told.
+const BEFORE: &[u8] =
+    b"\nsvc SetTimer 0000000000000000\nconsole note\nsvc RaiseTPL 0000000000000004\nsvc RestoreTPL 0000000000000000\nstart order 0000000000000000 41\nend\n";
+
+const BEHIND: &[u8] =
+    b"\nsvc SetTimer 0000000000000000\nsvc RaiseTPL 0000000000000004\nsvc RestoreTPL 0000000000000000\nconsole note\nstart order 0000000000000000 41\nend\n";
+
+const NEVER: &[u8] =
+    b"\nsvc SetTimer 0000000000000000\nsvc RaiseTPL 0000000000000004\nsvc RestoreTPL 0000000000000000\nstart order 0000000000000000 34\nend\n";
+
+/// Lists of tick moments, and how the run of `ORDER` ends with them.
+const TICKS: [(&str, &[u8]); 20] = [
+    ("", NEVER),
+    ("\"1\"", NEVER),
+    ("\"5\", \"10\"", NEVER),
+    ("\"19\"", NEVER),
+    ("\"34\"", NEVER),
+    ("\"19\", \"34\", \"10001\"", NEVER),
+    ("\"20\"", BEFORE),
+    ("\"21\"", BEFORE),
+    ("\"22\"", BEFORE),
+    ("\"23\"", BEFORE),
+    ("\"1\", \"2\", \"3\", \"20\"", BEFORE),
+    ("\"19\", \"23\", \"24\"", BEFORE),
+    ("\"22\", \"23\", \"24\", \"25\"", BEFORE),
+    ("\"24\"", BEHIND),
+    ("\"25\"", BEHIND),
+    ("\"26\", \"27\"", BEHIND),
+    ("\"28\"", BEHIND),
+    ("\"33\"", BEHIND),
+    ("\"19\", \"24\", \"30\"", BEHIND),
+    ("\"1\", \"33\", \"18446744073709551615\"", BEHIND),
+];
+
 #[test]
-fn a_tick_comes_between_a_jump_and_a_service(rt: HostRuntime) -> Result<(), Fail> {
-    let rows: [(&str, &[u8]); 3] = [
-        (
-            "\"23\"",
-            b"svc SetTimer 0000000000000000\nconsole note\nsvc RaiseTPL 0000000000000004\nsvc RestoreTPL 0000000000000000\nstart order 0000000000000000 41\nend\n",
-        ),
-        (
-            "\"24\"",
-            b"svc SetTimer 0000000000000000\nsvc RaiseTPL 0000000000000004\nsvc RestoreTPL 0000000000000000\nconsole note\nstart order 0000000000000000 41\nend\n",
-        ),
-        (
-            "",
-            b"svc SetTimer 0000000000000000\nsvc RaiseTPL 0000000000000004\nsvc RestoreTPL 0000000000000000\nstart order 0000000000000000 34\nend\n",
-        ),
-    ];
-    for (tick, last) in rows.iter() {
-        let script = replaced(rt.alloc(), ORDER, "TICK", *tick)?;
+fn lines_differ_only_where_a_tick_makes_them(rt: HostRuntime) -> Result<(), Fail> {
+    for (ticks, last) in TICKS.iter() {
+        let script = replaced(rt.alloc(), ORDER, "TICKS", *ticks)?;
         let made = ran(rt.alloc(), script.as_bytes(), b"", &[])?;
         assert_eq!(rt; made.status, Status::Done);
         assert!(rt; made.out.written().ends_with(last));

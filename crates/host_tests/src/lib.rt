@@ -4,6 +4,8 @@
 #[cfg(test)]
 mod commands;
 #[cfg(test)]
+mod ends;
+#[cfg(test)]
 mod events;
 #[cfg(test)]
 mod guests;
@@ -11,3 +13,5 @@ mod guests;
 mod images;
 #[cfg(test)]
 mod runs;
+#[cfg(test)]
+mod stores;

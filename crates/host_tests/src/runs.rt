@@ -61,7 +61,7 @@ pub(crate) fn ran(
 }
 
 /// Runs the script file `S` of some files.
-fn run_over(alloc: Global, files: MemFiles, fail: &[u32]) -> Result<Answered, Fail> {
+pub(crate) fn run_over(alloc: Global, files: MemFiles, fail: &[u32]) -> Result<Answered, Fail> {
     command_over(alloc, &["run", "S"], files, fail)
 }
 
@@ -95,7 +95,7 @@ pub(crate) fn replaced(alloc: Global, text: &str, word: &str, with: &str) -> Res
     Ok(made)
 }
 
-fn expect(rt: &impl Abort, ran: &Answered, status: Status, text: &str, message: &str) {
+pub(crate) fn expect(rt: &impl Abort, ran: &Answered, status: Status, text: &str, message: &str) {
     assert_eq!(rt; ran.status, status);
     assert!(rt; ran.out.written() == text.as_bytes());
     assert!(rt; ran.err.written() == message.as_bytes());
