@@ -1,11 +1,11 @@
 -- Names of variables, and tests.
-use Rattle.std.proofs.Common.{◌≡◌, ℕ, zero, suc, ◌⊎◌, inl, inr, List, [], ◌∷◌, ◌++◌, refl, sym, arith, Bool, true, false}
+use Rattle.std.proofs.Common.{◌≡◌, ℕ, zero, suc, ◌⊎◌, inl, inr, List, [], ◌∷◌, ◌++◌, get_or, refl, sym, ap, ◌∙◌, arith, Bool, true, false}
 use Rattle.std.specs.Prelude.{◌&&◌, ◌||◌, ◌==◌, not, remove, Option, Some, None, option_map, if◌then◌else◌}
 use Rattle.std.specs.Str.{bytes_eq}
 use Rattle.std.proofs.lemmas.Bool.Decides.{nat_tests}
 use Rattle.std.proofs.lemmas.Slice.Eq.{bytes_eq-Decides}
 use Rattle.uh_base.specs.declared.guid.Guid.{Guid}
-use Rattle.variable_store.specs.Entries.{Entry, same_guid, is_named, index_of, place_of}
+use Rattle.variable_store.specs.Entries.{Entry, same_guid, is_seen, is_named, index_of, place_of}
 use Rattle.variable_store.specs.Sets.{changed_at}
 use Rattle.variable_store.specs.Valid.{NoneNamed, AreApart}
 
@@ -85,6 +85,65 @@ none_named (e ∷ es) name vendor h = by (is_named name vendor e) refl h (λ k. 
         → (place_of es name vendor false ≡ None → NoneNamed name vendor es) → NoneNamed name vendor (e ∷ es)
     by true is k rest = absurd (cc)
     by false is k rest = (is, rest (nothing_found _ k))
+
+-- a variable that isn't there isn't seen
+none_seen : (entries : List Entry) (name : List ℕ) (vendor : Guid) (runtime : Bool) → NoneNamed name vendor entries → place_of entries name vendor runtime ≡ None
+unfolding index_of
+none_seen [] name vendor runtime all = refl
+none_seen (e ∷ es) name vendor runtime all = by (is_seen runtime e) (is_named name vendor e) (place_of es name vendor runtime) all.0 (none_seen es name vendor runtime all.1)
+  where
+    by : (s n : Bool) (place : Option ℕ) → n ≡ false → place ≡ None → (if s && n then Some 0 else option_map (λ k. suc k) place) ≡ None
+    by s true place is none = absurd (cc)
+    by true false place is none = rw none refl
+    by false false place is none = rw none refl
+
+pub nothing_seen : (entries : List Entry) (name : List ℕ) (vendor : Guid) (runtime : Bool) → None ≡ place_of entries name vendor false → None ≡ place_of entries name vendor runtime
+nothing_seen entries name vendor runtime is = sym (none_seen entries name vendor runtime (none_named entries name vendor (sym is)))
+
+-- what isn't named as a variable isn't named as its vendor and name are
+none_as : (name : List ℕ) (vendor : Guid) (e : Entry) (entries : List Entry) → SameKey name vendor e → NoneNamed e.name e.vendor entries → NoneNamed name vendor entries
+none_as name vendor e [] k all = tt
+none_as name vendor e (f ∷ fs) k all = (rw (k.d1, k.d2, k.d3, k.d4, k.names) at all.0, none_as name vendor e fs k all.1)
+
+-- a place that is seen, behind a variable of another name
+one_on : (s t : Bool) (i : ℕ) → (if t then Some (suc i) else None) ≡ (if s && false then Some 0 else option_map (λ k. suc k) (if t then Some i else None))
+one_on true true i = refl
+one_on true false i = refl
+one_on false true i = refl
+one_on false false i = refl
+
+-- The one variable of a vendor and name decides what is seen under them.
+seen_there : (entries : List Entry) (name : List ℕ) (vendor : Guid) (runtime : Bool) (i : ℕ) (d : Entry) → AreApart entries → Some i ≡ place_of entries name vendor false
+    → (if is_seen runtime (get_or entries i d) then Some i else None) ≡ place_of entries name vendor runtime
+unfolding index_of
+seen_there [] name vendor runtime i d apart is = absurd (cc)
+seen_there (e ∷ es) name vendor runtime i d apart is =
+    by (is_named name vendor e) (is_seen runtime e) i (place_of es name vendor false) (place_of es name vendor runtime) refl refl
+    (λ h. none_seen es name vendor runtime (none_as name vendor e es (named_tells name vendor e h) apart.0)) (λ k. seen_there es name vendor runtime k d apart.1) is
+  where
+    by : (n s : Bool) (i : ℕ) (there seen : Option ℕ) → is_named name vendor e ≡ n → is_seen runtime e ≡ s → (is_named name vendor e ≡ true → seen ≡ None)
+        → ((k : ℕ) → Some k ≡ there → (if is_seen runtime (get_or es k d) then Some k else None) ≡ seen)
+        → Some i ≡ (if n then Some 0 else option_map (λ k. suc k) there)
+        → (if is_seen runtime (get_or (e ∷ es) i d) then Some i else None) ≡ (if s && n then Some 0 else option_map (λ k. suc k) seen)
+    by true true zero there seen named sees none rest is = rw sees refl
+    by true false zero there seen named sees none rest is = rw (sees, none named) refl
+    by true s (suc i) there seen named sees none rest is = absurd (cc)
+    by false s i None seen named sees none rest is = absurd (cc)
+    by false s zero (Some k) seen named sees none rest is = absurd (cc)
+    by false s (suc i) (Some k) seen named sees none rest is =
+        let same : i ≡ k = cc in
+        rw (← rest i (ap Some same)) (one_on s (is_seen runtime (get_or es i d)) i)
+
+module _ (entries : List Entry) (name : List ℕ) (vendor : Guid) (runtime : Bool) (i : ℕ) (e : Entry) (is : e ≡ get_or entries i e) (b : Bool) (says : b ≡ is_seen runtime e)
+    (apart : AreApart entries) (there : Some i ≡ place_of entries name vendor false) where
+  decided : (if b then Some i else None) ≡ place_of entries name vendor runtime
+  decided = let at : b ≡ is_seen runtime (get_or entries i e) = says ∙ ap (is_seen runtime) is in rw at (seen_there entries name vendor runtime i e apart there)
+
+  pub is_the_seen : b ≡ true → Some i ≡ place_of entries name vendor runtime
+  is_the_seen h = rw h at decided
+
+  pub is_not_seen : b ≡ false → None ≡ place_of entries name vendor runtime
+  is_not_seen h = rw h at decided
 
 -- one more, behind the others
 none_more : (name : List ℕ) (vendor : Guid) (entries : List Entry) (f : Entry) → NoneNamed name vendor entries → is_named name vendor f ≡ false → NoneNamed name vendor (entries ++ f ∷ [])

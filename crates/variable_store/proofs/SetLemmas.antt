@@ -185,6 +185,13 @@ module _ (entries : List Entry) (name : List ℕ) (vendor : Guid) (attributes : 
         let one = sum_by-cons cost new [] in
         record { each = each_more entries new valid.each entry; apart = apart_more entries new valid.apart (none_named entries name vendor (hidden_none (sym is))); room = omega arith }
 
+-- a refusal by what is found under the name
+pub refusal_by : (entries items : List Entry) (name : List ℕ) (vendor : Guid) (attributes size : ℕ) (runtime : Bool) (seen : Option ℕ) (there : Bool) → items ≡ entries
+    → seen ≡ place_of items name vendor runtime → there ≡ is_some (place_of items name vendor false)
+    → refusal_of entries name vendor attributes size runtime ≡ first_refusal (refusals (record { units = length name; attributes = attributes; size = size; runtime = runtime }) (entry_at entries seen) there (room_of entries))
+unfolding refusal_of
+refusal_by entries items name vendor attributes size runtime seen there same s t = rw (s, t, same) refl
+
 -- A refusal is given as it is.
 pub gives_refusal : (refusal : VarRefusal) (wanted : Result (List Entry) VarRefusal) (old new : List Entry) → refusal ≢ Memory → wanted ≡ Err refusal → new ≡ old → Gives (Err refusal) wanted old new
 gives_refusal Invalid wanted old new other is same = (is, same)

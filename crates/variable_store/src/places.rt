@@ -1,11 +1,20 @@
 //! The places of variables.
 #![tactic(auto)]
 
-ghost use Rattle.std.specs.Prelude.{◌≡◌, ◌<◌, ◌≤◌, length, IfSome};
+ghost use Rattle.std.specs.Prelude.{◌≡◌, ◌<◌, ◌≤◌, false, length, is_some, IfSome};
 ghost use Rattle.variable_store.specs.Entries.{index_of, is_seen, place_of, seen_from};
+ghost use Rattle.variable_store.specs.Valid.{AreVariables};
 
 use crate::variable::Variable;
 use uh_base::Guid;
+
+/// What is found under a name of a vendor: the place of the variable, where it is seen, and whether one is there, seen
+/// or not.
+#[derive(Clone, Copy)]
+pub struct Found {
+    pub seen: Option<usize>,
+    pub is_there: bool,
+}
 
 /// The place of a variable that is seen, by its name and vendor.
 pub fn place_of(variables: &[Variable], name: &[u16], vendor: &Guid, runtime: bool) -> Option<usize>
@@ -18,6 +27,29 @@ pub fn place_of(variables: &[Variable], name: &[u16], vendor: &Guid, runtime: bo
         }
     }
     None
+}
+
+/// What is found under a name of a vendor, in one walk, since no two variables have the same.
+pub fn look(variables: &[Variable], name: &[u16], vendor: &Guid, runtime: bool) -> Found
+    requires { AreVariables variables.now }
+    ensures seen { result.seen ≡ place_of variables.now name.now vendor.now runtime }
+    ensures is_there { result.is_there ≡ is_some (place_of variables.now name.now vendor.now false) }
+    ensures inside { IfSome result.seen (λ place. place < length variables.now) }
+{
+    match place_of(variables, name, vendor, false) {
+        Some(place) => Found {
+            seen: if variables[place].is_seen(runtime) {
+                Some(place)
+            } else {
+                None
+            },
+            is_there: true,
+        },
+        None => Found {
+            seen: None,
+            is_there: false,
+        },
+    }
 }
 
 /// The place of the first variable that is seen.

@@ -4,7 +4,7 @@
 ghost use Rattle.std.specs.Prelude.{◌≡◌, ◌≢◌, ◌<◌, ◌≤◌, ◌+◌, ◌++◌, [], ◌∷◌, length, remove, IfSome, IfNone, IfOk, OnOk, OnErr, Some, None, Ok, slice_get};
 ghost use Rattle.uh_base.specs.Answers.{Reads};
 ghost use Rattle.variable_store.specs.Entries.{room_of, place_of, next_of};
-ghost use Rattle.variable_store.specs.Sets.{refusal_of, new_entry, changed_at, written, set_of, Gives};
+ghost use Rattle.variable_store.specs.Sets.{refusals, first_refusal, entry_at, refusal_of, new_entry, changed_at, written, set_of, Gives};
 ghost use Rattle.variable_store.specs.Valid.{AreVariables};
 ghost use Rattle.variable_store.specs.Store.{store_of};
 ghost use Rattle.variable_store.specs.Reading.{store_in, named};
@@ -12,6 +12,7 @@ ghost use Rattle.variable_store.specs.declared.refusal.VarRefusal.TheVariants.{M
 
 use crate::asked::Asked;
 use crate::fault::StoreFault;
+use crate::places::Found;
 use crate::refusal::VarRefusal;
 use crate::variable::{Variable, fits};
 use crate::{loading, places, saving};
@@ -124,11 +125,19 @@ impl Variables {
             size,
             runtime,
         };
-        let there = match self.find(name, vendor, runtime) {
+        self.refusal_at(places::look(&self.entries, name, vendor, runtime), asked)
+    }
+
+    /// Why a set is refused, by what is found under its name.
+    fn refusal_at(&self, found: Found, asked: Asked) -> Option<VarRefusal>
+        ensures first { result ≡ first_refusal (refusals asked (entry_at self.now found.seen) found.is_there (room_of self.now)) }
+        ensures known { IfSome result (λ refusal. refusal ≢ Memory) }
+    {
+        let there = match found.seen {
             Some(place) => self.at(place),
             None => None,
         };
-        asked.refusal(there, self.find(name, vendor, false).is_some(), self.room())
+        asked.refusal(there, found.is_there, self.room())
     }
 
     /// Puts a variable behind the others.
@@ -189,16 +198,19 @@ impl Variables {
         self.used -= variable.cost();
     }
 
-    /// Makes a set that isn't refused.
+    /// Makes a set that isn't refused, of the variable at a place, or of one that isn't seen.
     fn accept(
         &mut self,
+        place: Option<usize>,
         name: &[u16],
         vendor: &Guid,
         attributes: u32,
         bytes: &[u8],
         runtime: bool,
     ) -> Result<(), AllocError>
-        requires { refusal_of self.old name.now vendor.now attributes (length bytes.now) runtime ≡ None }
+        requires place { place ≡ place_of self.old name.now vendor.now runtime }
+        requires inside { IfSome place (λ index. index < length self.old) }
+        requires free { refusal_of self.old name.now vendor.now attributes (length bytes.now) runtime ≡ None }
         ensures ok { OnOk result (set_of self.old name.now vendor.now attributes bytes.now runtime ≡ Ok self.new) }
         ensures err { OnErr result (self.new ≡ self.old) }
     {
@@ -214,7 +226,7 @@ impl Variables {
             return Ok(());
         }
         if asked.is_removal() {
-            return match self.find(name, vendor, runtime) {
+            return match place {
                 Some(index) => {
                     self.remove(index);
                     Ok(())
@@ -222,7 +234,7 @@ impl Variables {
                 None => Ok(()),
             };
         }
-        match self.find(name, vendor, runtime) {
+        match place {
             Some(index) => self.change(index, attributes, bytes),
             None => self.add(name, vendor, attributes, bytes),
         }
@@ -242,9 +254,16 @@ impl Variables {
     ) -> Result<(), VarRefusal>
         ensures { Gives result (set_of self.old name.now vendor.now attributes bytes.now runtime) self.old self.new }
     {
-        match self.refusal(name, vendor, attributes, bytes.len() as u64, runtime) {
+        let asked = Asked {
+            units: name.len(),
+            attributes,
+            size: bytes.len() as u64,
+            runtime,
+        };
+        let found = places::look(&self.entries, name, vendor, runtime);
+        match self.refusal_at(found, asked) {
             Some(refusal) => Err(refusal),
-            None => match self.accept(name, vendor, attributes, bytes, runtime) {
+            None => match self.accept(found.seen, name, vendor, attributes, bytes, runtime) {
                 Ok(()) => Ok(()),
                 Err(_) => Err(VarRefusal::Memory),
             },
