@@ -9,13 +9,15 @@ use Rattle.event_queue.specs.Queue.{EventList, is_entry, greatest, next_entry, n
 use Rattle.event_queue.specs.Timers.{has_moment, ticked}
 use Rattle.event_queue.specs.Laws.{TicksOnce}
 use Rattle.firmware_core.specs.declared.happened.Happened.{Happened}
-use Rattle.firmware_core.specs.declared.happened.Happened.TheVariants.{Turned, Said, Left, Reset, Halted}
+use Rattle.firmware_core.specs.declared.happened.Happened.TheVariants.{Turned, Said, Left, Trapped, Reset, Halted}
 use Rattle.firmware_core.specs.declared.happened.Halt.{Halt}
 use Rattle.firmware_core.specs.Parts.{Parts}
-use Rattle.firmware_core.specs.Frames.{tick_is_due, notice_of, with_notification, is_full}
-use Rattle.firmware_core.specs.Turns.{State, Turn, Tick, Notice, tick_turn, next_turn, turn_of}
+use Rattle.record_text.specs.declared.cause.Cause.TheVariants as causes
+use Rattle.firmware_core.specs.declared.happened.JobEnd.TheVariants as ends
+use Rattle.firmware_core.specs.Frames.{tick_is_due, notice_of, with_notification, is_full, in_call, call_over}
+use Rattle.firmware_core.specs.Turns.{State, Turn, Tick, Notice, tick_turn, next_turn, bound_halt, turn_of}
 use Rattle.firmware_core.specs.Jobs.{Job, counts, or_next, uncounted, events_behind, most_uncounted, settled, joined, said_before, turns_of, steps_left, job_of, goes_on, JobsAreTurns}
-use Rattle.firmware_core.proofs.TurnLemmas.{Comes, Ticks, Notices, Neither, comes, none_behind, counted_counts, next_is_tick, next_is_notice, next_is_counted, turn_is, full_turn, turn_counts, turn_keeps, turn_happens, last_turn}
+use Rattle.firmware_core.proofs.TurnLemmas.{Comes, Ticks, Notices, Neither, comes, none_behind, counted_counts, next_is_tick, next_is_notice, next_is_counted, turn_is, full_turn, stopped_by, turn_counts, turn_keeps, turn_happens, last_turn}
 
 -- ---- what starts leaves the queue
 
@@ -159,6 +161,7 @@ module _ (once : TicksOnce) where
     behind_turn k Turned t = let falls = need_falls s k t in again (turn_of s).state (omega (arith, falls, h)) (omega (arith, falls, g))
     behind_turn k (Said line) t = refl
     behind_turn k (Left value steps) t = refl
+    behind_turn k (Trapped cause steps) t = refl
     behind_turn k (Reset kind status) t = refl
     behind_turn k (Halted halt) t = refl
 
@@ -227,15 +230,23 @@ module _ (once : TicksOnce) where
         let c = turn_counts s k (ap goes_on e) in
         rw e (ap (λ m. said_before line (turns_of m (turn_of s).state)) (next_left n left c.0 c.1))
     one_more n left k (Left value steps) e = rw e refl
+    one_more n left k (Trapped cause steps) e = rw e refl
     one_more n left k (Reset kind status) e = rw e refl
     one_more n left k (Halted halt) e = rw e refl
+
+    abbrev bound_job : Bool → Job
+    bound_job b = if b then record { lines = []; end = ends.Trapped causes.Bound s.steps; state = record s { firmware = call_over s.firmware } } else record { lines = []; end = ends.Halted (bound_halt s.firmware); state = s }
+
+    bound_joins : (rest : Job) (b : Bool) → bound_job b ≡ joined (stopped_by (bound_halt s.firmware) s b).happened (stopped_by (bound_halt s.firmware) s b).state rest
+    bound_joins rest true = refl
+    bound_joins rest false = refl
 
     counted_by : (n : ℕ) → n ≡ steps_left s → counts (next_turn s) ≡ true → turns_of n s ≡ joined (turn_of s).happened (turn_of s).state (job_of (turn_of s).state)
     unfolding turns_of
     counted_by zero left k =
         let same : s.steps ≡ s.bound = omega (arith, left, within) in
         let last = last_turn s k same in
-        rw (counted_settled s k) (rw last refl)
+        rw (counted_settled s k) (rw last (bound_joins _ (in_call s.firmware)))
     counted_by (suc n) left k = rw (counted_settled s k) (one_more n left k (turn_of s).happened refl)
 
     job_by : (b : Bool) → counts (next_turn s) ≡ b → Goal

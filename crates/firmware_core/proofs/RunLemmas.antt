@@ -9,7 +9,7 @@ use Rattle.event_queue.specs.Laws.{NextIsAbove, TicksOnce, IsAbove}
 use Rattle.firmware_core.specs.declared.happened.Happened.TheVariants.{Turned, Halted}
 use Rattle.firmware_core.specs.declared.happened.Halt.{Halt}
 use Rattle.firmware_core.specs.Frames.{tick_is_due, with_tick, notice_of, without_notice, with_notification, is_full}
-use Rattle.firmware_core.specs.Turns.{State, Turn, Next, Tick, Notice, Bound, Slot, Instruction, with_firmware, next_turn, turn_of}
+use Rattle.firmware_core.specs.Turns.{State, Turn, Next, Tick, Notice, Bound, Return, Slot, Instruction, with_firmware, next_turn, turn_of}
 use Rattle.firmware_core.specs.Jobs.{counts, goes_on, steps_left}
 use Rattle.firmware_core.specs.Runs.{FreeTurn, FreeTurns, is_tick, is_start, FreeTurnsAreFew, Ends, JobsEnd}
 use Rattle.firmware_core.proofs.TurnLemmas.{Comes, Ticks, Notices, Neither, comes, none_behind, counted_counts, next_is_tick, next_is_notice, next_is_counted, turn_is, full_turn, turn_counts, turn_keeps, turn_happens, counts_below}
@@ -74,6 +74,7 @@ no_tick [] old new quiet path = refl
 no_tick (Tick ∷ more) old new quiet path = let k : false ≡ true = sym quiet ∙ is_due old path.0.is in let bad : ⊥ = cc in absurd bad
 no_tick (Notice n ∷ more) old new quiet path = no_tick more (turn_of old).state new (still_quiet old n path.0.is path.0.turned) path.1
 no_tick (Bound ∷ more) old new quiet path = let k = path.0.free in let bad : ⊥ = cc in absurd bad
+no_tick (Return ∷ more) old new quiet path = let k = path.0.free in let bad : ⊥ = cc in absurd bad
 no_tick (Slot slot ∷ more) old new quiet path = let k = path.0.free in let bad : ⊥ = cc in absurd bad
 no_tick (Instruction ∷ more) old new quiet path = let k = path.0.free in let bad : ⊥ = cc in absurd bad
 
@@ -86,6 +87,7 @@ module _ (above : NextIsAbove) (once : TicksOnce) where
   one_tick (Tick ∷ more) old new path = let none = no_tick more (turn_of old).state new (quiet_behind old path.0.is) path.1 in omega (arith, none)
   one_tick (Notice n ∷ more) old new path = one_tick more (turn_of old).state new path.1
   one_tick (Bound ∷ more) old new path = let k = path.0.free in let bad : ⊥ = cc in absurd bad
+  one_tick (Return ∷ more) old new path = let k = path.0.free in let bad : ⊥ = cc in absurd bad
   one_tick (Slot slot ∷ more) old new path = let k = path.0.free in let bad : ⊥ = cc in absurd bad
   one_tick (Instruction ∷ more) old new path = let k = path.0.free in let bad : ⊥ = cc in absurd bad
 
@@ -106,6 +108,7 @@ module _ (above : NextIsAbove) (once : TicksOnce) where
       let up = is.above in let most = is.most in
       omega (arith, rest, level, up, most)
   starts_above (Bound ∷ more) old new path = let k = path.0.free in let bad : ⊥ = cc in absurd bad
+  starts_above (Return ∷ more) old new path = let k = path.0.free in let bad : ⊥ = cc in absurd bad
   starts_above (Slot slot ∷ more) old new path = let k = path.0.free in let bad : ⊥ = cc in absurd bad
   starts_above (Instruction ∷ more) old new path = let k = path.0.free in let bad : ⊥ = cc in absurd bad
 
@@ -120,6 +123,7 @@ module _ (above : NextIsAbove) (once : TicksOnce) where
       let least = is.least in let most = is.most in
       omega (arith, rest, level, least, most)
   few_starts (Bound ∷ more) old new path = let k = path.0.free in let bad : ⊥ = cc in absurd bad
+  few_starts (Return ∷ more) old new path = let k = path.0.free in let bad : ⊥ = cc in absurd bad
   few_starts (Slot slot ∷ more) old new path = let k = path.0.free in let bad : ⊥ = cc in absurd bad
   few_starts (Instruction ∷ more) old new path = let k = path.0.free in let bad : ⊥ = cc in absurd bad
 

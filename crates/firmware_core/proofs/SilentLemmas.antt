@@ -1,7 +1,6 @@
 -- Turns that say nothing.
-use Rattle.std.proofs.Common.{◌≡◌, ◌≢◌, ◌⊎◌, inl, inr, ℕ, zero, suc, ◌+◌, ◌≤◌, ◌<◌, ◌-◌, Bool, true, false, List, Option, Some, None, refl, sym, ap, subst, ◌∙◌, arith}
+use Rattle.std.proofs.Common.{◌≡◌, ◌≢◌, ◌⊎◌, inl, inr, ℕ, zero, suc, ◌+◌, ◌≤◌, ◌<◌, ◌-◌, Bool, true, false, List, None, refl, sym, ap, subst, ◌∙◌, arith}
 use Rattle.std.specs.Prelude.{nat_le, if◌then◌else◌}
-use Rattle.std.specs.Option.{is_some}
 use Rattle.std.proofs.lemmas.Bool.Decides.{nat_tests}
 use Rattle.record_text.specs.declared.cause.Cause.TheVariants as causes
 use Rattle.event_queue.specs.Queue.{EventList, next_entry, notified}
@@ -18,7 +17,7 @@ use Rattle.firmware_core.specs.declared.happened.Happened.{Happened}
 use Rattle.firmware_core.specs.declared.happened.Happened.TheVariants.{Turned, Halted}
 use Rattle.firmware_core.specs.Parts.{Parts}
 use Rattle.firmware_core.specs.Frames.{tick_is_due, notice_of, Quiet}
-use Rattle.firmware_core.specs.Turns.{State, Turn, next_turn, turn_of, instruction_turn, halted, trapped, instructed, slot_at, passed, counted}
+use Rattle.firmware_core.specs.Turns.{State, Turn, next_turn, turn_of, instruction_turn, halted, stopped, halt_of, instructed, is_returning, slot_at, passed, counted}
 use Rattle.firmware_core.specs.Jobs.{counts, joined, steps_left, job_of, JobsAreTurns, Silently, SilentlyTo, goes_on, Says}
 use Rattle.firmware_core.specs.Views.{due, potential}
 use Rattle.firmware_core.proofs.TurnLemmas.{no_moment, gone_quiet, turn_counts, turn_keeps, turn_happens, counts_below, plain_turn, plain_is, trap_is, frames_is}
@@ -146,9 +145,9 @@ module _ (old now : State) (step end : ℕ) (silent : Silent old now step end) (
   no_tick : tick_is_due now.firmware ≡ false
   no_tick = no_tick_by old.firmware.runtime.gone refl
 
-  pub goes_silently : (new : Parts) (t : State) → slot_at now.firmware ≡ None → record { end = ends.Next; firmware = new } ≡ instructed now.firmware → t ≡ counted now new → Silent old t (step + 1) end
-  goes_silently new t none instructed_now is =
-      let turn = plain_turn now new no_tick no_notice steps_below none instructed_now in
+  pub goes_silently : (new : Parts) (t : State) → is_returning now.firmware ≡ false → slot_at now.firmware ≡ None → record { end = ends.Next; firmware = new } ≡ instructed now.firmware → t ≡ counted now new → Silent old t (step + 1) end
+  goes_silently new t here none instructed_now is =
+      let turn = plain_turn now new no_tick no_notice steps_below here none instructed_now in
       let state : (turn_of now).state ≡ t = ap (λ (x : Turn). x.state) turn ∙ sym is in
       let at = silent.at in let since = silent.since in let time = silent.time in
       let steps : t.steps ≡ now.steps + 1 = ap (λ (x : State). x.steps) is in
@@ -180,18 +179,10 @@ module _ (old now : State) (step end : ℕ) (silent : Silent old now step end) (
     pub is_old : now ≡ old
     is_old = silent.first is_first
 
-  -- where the first turn alone is asked for, a slot that comes isn't the first
-  pub no_slot_first : {X : Type 0} (slot : Option ℕ) → slot ≡ slot_at now.firmware → true ≡ is_some slot → end ≡ old.steps + 1 → slot_at old.firmware ≡ None → X
-  no_slot_first None e some one none = let bad : ⊥ = cc in absurd bad
-  no_slot_first (Some k) e some one none =
-      let same : slot_at now.firmware ≡ slot_at old.firmware = ap (λ (s : State). slot_at s.firmware) (is_old one) in
-      let bad : Some k ≡ None = e ∙ same ∙ none in
-      let none : ⊥ = cc in absurd none
-
-  pub trap_first : (trap : Trap) (new : Parts) (halt : Halt) → (ends.Trap trap ≢ ends.Memory → record { end = ends.Trap trap; firmware = new } ≡ instructed now.firmware) → Halted halt ≡ trapped trap now.firmware.hart.pc → end ≡ old.steps + 1
-      → record { happened = Halted halt; state = record now { firmware = new } } ≡ instruction_turn old
+  pub trap_first : (trap : Trap) (new : Parts) (halt : Halt) → (ends.Trap trap ≢ ends.Memory → record { end = ends.Trap trap; firmware = new } ≡ instructed now.firmware) → halt ≡ halt_of trap now.firmware.hart.pc → end ≡ old.steps + 1
+      → stopped halt (record now { firmware = new }) ≡ instruction_turn old
   trap_first trap new halt h is one =
-      ap (λ (x : Happened). record { happened = x; state = record now { firmware = new } }) is
+      ap (λ (x : Halt). stopped x (record now { firmware = new })) is
       ∙ trap_is now new trap (h (λ (e : ends.Trap trap ≡ ends.Memory). cc)) ∙ ap instruction_turn (is_old one)
 
   pub frames_first : (new : Parts) → (ends.Frames ≢ ends.Memory → record { end = ends.Frames; firmware = new } ≡ instructed now.firmware) → end ≡ old.steps + 1

@@ -5,9 +5,7 @@ use Rattle.std.specs.Option.{is_some}
 use Rattle.std.proofs.lemmas.Bool.Decides.{nat_tests}
 use Rattle.rv_step.specs.declared.ends.StepEnd.{StepEnd}
 use Rattle.rv_step.specs.declared.ends.StepEnd.TheVariants as ends
-use Rattle.rv_step.specs.declared.bus.Access.TheVariants as access
 use Rattle.rv_step.specs.declared.ends.Trap.{Trap}
-use Rattle.rv_step.specs.declared.ends.Trap.TheVariants as traps
 use Rattle.rv_step.specs.Exec.{Outcome, Went, Stored, Stopped, step_of}
 use Rattle.rv_step.specs.Exec as exec
 use Rattle.guest_memory.specs.Pages.{rights_at}
@@ -18,7 +16,7 @@ use Rattle.address_view.specs.Stored.{lacks_seen}
 use Rattle.virtual_map.specs.States.{Runtime}
 use Rattle.virtual_map.specs.Instructions.{Carried, carried, comes_to, seen_by}
 use Rattle.firmware_core.specs.declared.happened.Happened.{Happened}
-use Rattle.firmware_core.specs.declared.happened.Happened.TheVariants.{Turned, Halted}
+use Rattle.firmware_core.specs.declared.happened.Happened.TheVariants.{Turned, Trapped, Halted}
 use Rattle.firmware_core.specs.declared.happened.Halt.{Halt}
 use Rattle.event_queue.specs.declared.event.Entry.{Entry}
 use Rattle.event_queue.specs.declared.event.Event.{Event}
@@ -27,11 +25,11 @@ use Rattle.event_queue.specs.Queue.{EventList, notified}
 use Rattle.event_queue.specs.Timers.{has_moment, moment_ahead, ticked, after_tick}
 use Rattle.event_queue.specs.Laws.{TicksOnce}
 use Rattle.firmware_core.specs.Views.{IsNotice, NoticeTurned}
-use Rattle.firmware_core.specs.Frames.{tick_is_due, with_tick, notice_of, without_notice, is_full, with_notification, Quiet}
+use Rattle.firmware_core.specs.Frames.{tick_is_due, with_tick, notice_of, without_notice, is_full, with_notification, in_call, call_over, Quiet}
 use Rattle.firmware_core.specs.declared.conclusion.Conclusion.{Conclusion}
 use Rattle.firmware_core.specs.declared.conclusion.Conclusion.TheVariants.{Answers, Prints, Continues, Leaves, Resets, Halts}
 use Rattle.firmware_core.specs.Parts.{Parts}
-use Rattle.firmware_core.specs.Turns.{State, Turn, Next, Tick, Notice, Bound, Slot, Instruction, with_firmware, with_carried, Instructed, instructed, by_slot, slot_at, counted, carried_out, service_turn, instruction_turn, counted_next, next_turn, by_next, turn_of, halted, trapped}
+use Rattle.firmware_core.specs.Turns.{State, Turn, Next, Tick, Notice, Bound, Return, Slot, Instruction, with_firmware, with_carried, Instructed, instructed, by_slot, is_returning, slot_at, counted, carried_out, service_turn, instruction_turn, counted_next, next_turn, by_next, turn_of, halted, ends_call, stopped, bound_halt, halt_of}
 use Rattle.firmware_core.specs.Turns as turns
 use Rattle.firmware_core.specs.Jobs.{counts, goes_on}
 
@@ -54,13 +52,16 @@ pub left_alone : (f : Parts) → (instructed f).end ≢ ends.Next → (instructe
 unfolding instructed carried
 left_alone f h = ap (with_carried f) (outcome_kept f.hart.x f.hart.pc f.runtime (step_of (view_allows (see f.runtime.view) (rights_at f.runtime.memory)) (seen_by f.hart.x f.hart.pc f.runtime)) h)
 
-trap_ends : (trap : Trap) (pc : ℕ) → goes_on (trapped trap pc) ≡ true → ⊥
-trap_ends traps.Illegal pc h = cc
-trap_ends traps.Ebreak pc h = cc
-trap_ends traps.Ecall pc h = cc
-trap_ends (traps.Fault at access.Load) pc h = cc
-trap_ends (traps.Fault at access.Store) pc h = cc
-trap_ends (traps.Fault at access.Fetch) pc h = cc
+-- a halt ends the call or the run
+abbrev pub stopped_by : Halt → State → Bool → Turn
+stopped_by halt s b = if b then record { happened = Trapped halt.cause s.steps; state = record s { firmware = call_over s.firmware } } else record { happened = Halted halt; state = s }
+
+halt_ends : (halt : Halt) (s : State) (b : Bool) → goes_on (stopped_by halt s b).happened ≡ true → ⊥
+halt_ends halt s true h = cc
+halt_ends halt s false h = cc
+
+stop_ends : (halt : Halt) (s : State) → goes_on (stopped halt s).happened ≡ true → ⊥
+stop_ends halt s h = halt_ends halt s (ends_call halt.cause && in_call s.firmware) h
 
 -- ---- ticks
 
@@ -135,9 +136,13 @@ slots_count (Some slot) = refl
 pub counted_counts : (s : State) → counts (counted_next s) ≡ true
 counted_counts s = by (s.steps == s.bound)
   where
-    by : (b : Bool) → counts (if b then Bound else by_slot (slot_at s.firmware)) ≡ true
+    by_return : (b : Bool) → counts (if b then Return else by_slot (slot_at s.firmware)) ≡ true
+    by_return true = refl
+    by_return false = slots_count (slot_at s.firmware)
+
+    by : (b : Bool) → counts (if b then Bound else (if is_returning s.firmware then Return else by_slot (slot_at s.firmware))) ≡ true
     by true = refl
-    by false = slots_count (slot_at s.firmware)
+    by false = by_return (is_returning s.firmware)
 
 counted_by : (s : State) → Comes s → counts (next_turn s) ≡ true → next_turn s ≡ counted_next s
 counted_by s (Ticks tick) h = let e : counts Tick ≡ true = ap counts (sym (next_is_tick s tick)) ∙ h in let bad : ⊥ = cc in absurd bad
@@ -214,7 +219,7 @@ module _ (s : State) where
 
   instruction_counts : (pc : ℕ) (end : StepEnd) (f : Parts) → goes_on (carried_out pc s end f).happened ≡ true → Counts (carried_out pc s end f)
   instruction_counts pc ends.Next f h = (refl, refl)
-  instruction_counts pc (ends.Trap trap) f h = absurd (trap_ends trap pc h)
+  instruction_counts pc (ends.Trap trap) f h = absurd (stop_ends (halt_of trap pc) (record s { firmware = f }) h)
   instruction_counts pc ends.Frames f h = let bad : ⊥ = cc in absurd bad
   instruction_counts pc ends.Memory f h = let bad : ⊥ = cc in absurd bad
 
@@ -222,9 +227,10 @@ module _ (s : State) where
   unfolding service_turn instruction_turn
   step_counts Tick k h = let bad : ⊥ = cc in absurd bad
   step_counts (Notice notify) k h = let bad : ⊥ = cc in absurd bad
-  step_counts Bound k h = let bad : ⊥ = cc in absurd bad
+  step_counts Bound k h = absurd (stop_ends (bound_halt s.firmware) s h)
+  step_counts Return k h = let bad : ⊥ = cc in absurd bad
   step_counts (Slot slot) k h = service_counts _ _ _ _ h
-  step_counts Instruction k h = instruction_counts _ _ _ h
+  step_counts Instruction k h = instruction_counts s.firmware.hart.pc (instructed s.firmware).end (instructed s.firmware).firmware h
 
   -- a turn that counts, and that the job goes on behind, counts a step
   pub turn_counts : counts (next_turn s) ≡ true → goes_on (turn_of s).happened ≡ true → Counts (turn_of s)
@@ -239,6 +245,7 @@ module _ (s : State) where
   free_keeps Tick k = (refl, refl)
   free_keeps (Notice notify) k = notice_keeps notify (is_full s.firmware)
   free_keeps Bound k = let bad : ⊥ = cc in absurd bad
+  free_keeps Return k = let bad : ⊥ = cc in absurd bad
   free_keeps (Slot slot) k = let bad : ⊥ = cc in absurd bad
   free_keeps Instruction k = let bad : ⊥ = cc in absurd bad
 
@@ -258,6 +265,7 @@ module _ (s : State) where
   free_happens Tick k = inl refl
   free_happens (Notice notify) k = notice_happens notify (is_full s.firmware)
   free_happens Bound k = let bad : ⊥ = cc in absurd bad
+  free_happens Return k = let bad : ⊥ = cc in absurd bad
   free_happens (Slot slot) k = let bad : ⊥ = cc in absurd bad
   free_happens Instruction k = let bad : ⊥ = cc in absurd bad
 
@@ -270,14 +278,14 @@ module _ (s : State) where
   bound_is h = let is : (s.steps == s.bound) ≡ true = grind (arith, nat_tests) in rw is refl
 
   -- where no step is left, the bound ends the job
-  pub last_turn : counts (next_turn s) ≡ true → s.steps ≡ s.bound → turn_of s ≡ record { happened = halted causes.Bound s.firmware.hart.pc 0; state = s }
+  pub last_turn : counts (next_turn s) ≡ true → s.steps ≡ s.bound → turn_of s ≡ stopped (bound_halt s.firmware) s
   last_turn k h = turn_is s Bound (counted_is s k ∙ bound_is h)
 
   below_by : s.steps ≤ s.bound → counts (next_turn s) ≡ true → goes_on (turn_of s).happened ≡ true → (n : ℕ) → n ≡ s.bound - s.steps → s.steps < s.bound
   below_by within k h zero e =
       let same : s.steps ≡ s.bound = omega arith in
-      let bad : goes_on (halted causes.Bound s.firmware.hart.pc 0) ≡ true = ap (λ (t : Turn). goes_on t.happened) (sym (last_turn k same)) ∙ h in
-      let none : ⊥ = cc in absurd none
+      let bad : goes_on (stopped (bound_halt s.firmware) s).happened ≡ true = ap (λ (t : Turn). goes_on t.happened) (sym (last_turn k same)) ∙ h in
+      absurd (stop_ends (bound_halt s.firmware) s bad)
   below_by within k h (suc n) e = omega arith
 
   -- a turn that counts a step comes before the bound
@@ -300,7 +308,7 @@ pub plain_is : (s : State) (new : Parts) → record { end = ends.Next; firmware 
 unfolding instruction_turn
 plain_is s new e = let back = sym e in rw back refl
 
-pub trap_is : (s : State) (new : Parts) (trap : Trap) → record { end = ends.Trap trap; firmware = new } ≡ instructed s.firmware → record { happened = trapped trap s.firmware.hart.pc; state = record s { firmware = new } } ≡ instruction_turn s
+pub trap_is : (s : State) (new : Parts) (trap : Trap) → record { end = ends.Trap trap; firmware = new } ≡ instructed s.firmware → stopped (halt_of trap s.firmware.hart.pc) (record s { firmware = new }) ≡ instruction_turn s
 unfolding instruction_turn
 trap_is s new trap e = let back = sym e in rw back refl
 
@@ -308,13 +316,13 @@ pub frames_is : (s : State) (new : Parts) → record { end = ends.Frames; firmwa
 unfolding instruction_turn
 frames_is s new e = let back = sym e in rw back refl
 
--- where no tick, no notification, no slot and no bound comes, an instruction that is carried out is the turn
-pub plain_turn : (s : State) (new : Parts) → tick_is_due s.firmware ≡ false → notice_of s.firmware ≡ None → s.steps < s.bound → slot_at s.firmware ≡ None → record { end = ends.Next; firmware = new } ≡ instructed s.firmware
+-- where no tick, no notification, no return, no slot and no bound comes, an instruction that is carried out is the turn
+pub plain_turn : (s : State) (new : Parts) → tick_is_due s.firmware ≡ false → notice_of s.firmware ≡ None → s.steps < s.bound → is_returning s.firmware ≡ false → slot_at s.firmware ≡ None → record { end = ends.Next; firmware = new } ≡ instructed s.firmware
     → turn_of s ≡ record { happened = Turned; state = counted s new }
 unfolding instruction_turn
-plain_turn s new quiet nothing below none e =
+plain_turn s new quiet nothing below here none e =
     let is : (s.steps == s.bound) ≡ false = grind (arith, nat_tests) in
-    let comes_now : counted_next s ≡ Instruction = rw (is, none) refl in
+    let comes_now : counted_next s ≡ Instruction = rw (is, here, none) refl in
     let back = sym e in
     turn_is s Instruction (next_is_counted s quiet nothing ∙ comes_now) ∙ rw back refl
 

@@ -8,11 +8,11 @@ use Rattle.firmware_core.specs.declared.conclusion.Conclusion.TheVariants.{Answe
 use Rattle.firmware_core.specs.Parts.{Parts}
 use Rattle.firmware_core.specs.Frames.{is_full, pushed, aligned_stack, registers_for}
 use Rattle.firmware_core.specs.BootEnd.{exit_address, is_ending}
-use Rattle.firmware_core.specs.Turns.{State, Turn, Next, Tick, Notice, Bound, Slot, Instruction, next_turn, counted, comes_to}
+use Rattle.firmware_core.specs.Turns.{State, Turn, Next, Tick, Notice, Bound, Return, Slot, Instruction, next_turn, counted, comes_to}
 
 -- ---- the slot that comes next
 
--- A job is under way from the frame of its image on, up to the end of that frame, or where it ends boot services.
+-- A job is under way from the frame of its image or its call on, up to the end of that frame, or where it ends boot services.
 abbrev pub is_under_way : State → Bool
 is_under_way s = nat_lt 0 (length s.firmware.frames) || is_ending (exit_address s.firmware.runtime.layout) s.firmware.hart
 
@@ -20,6 +20,7 @@ abbrev pub slot_of : Next → Option ℕ
 slot_of Tick = None
 slot_of (Notice notify) = None
 slot_of Bound = None
+slot_of Return = None
 slot_of (Slot slot) = Some slot
 slot_of Instruction = None
 

@@ -1,5 +1,5 @@
 -- Ticks, the start of notifications and of images, and frames.
-use Rattle.std.specs.Prelude.{ℕ, ◌≡◌, ◌≤◌, ◌+◌, ◌-◌, ◌*◌, ◌%◌, ◌&&◌, not, nat_le, Bool, false, List, [], ◌∷◌, ◌++◌, length, take, replicate, Option, None, slice_get, slice_index, slice_set}
+use Rattle.std.specs.Prelude.{ℕ, ◌≡◌, ◌≤◌, ◌+◌, ◌-◌, ◌*◌, ◌%◌, ◌&&◌, not, nat_le, Bool, true, false, List, [], ◌∷◌, ◌++◌, length, take, replicate, Option, Some, None, slice_get, slice_index, slice_set}
 use Rattle.page_alloc.specs.declared.layout.Layout.{Layout}
 use Rattle.event_queue.specs.declared.event.Notify.{Notify}
 use Rattle.event_queue.specs.Queue.{next_entry, notified, after_next}
@@ -7,7 +7,7 @@ use Rattle.event_queue.specs.Timers.{has_moment, ticked, moment_ahead}
 use Rattle.image_services.specs.Images.{with_started}
 use Rattle.firmware_core.specs.declared.frame.Phase.TheVariants.{Called}
 use Rattle.firmware_core.specs.declared.frame.Purpose.{Purpose}
-use Rattle.firmware_core.specs.declared.frame.Purpose.TheVariants.{Notification}
+use Rattle.firmware_core.specs.declared.frame.Purpose.TheVariants.{Job, Image, Call, Runtime, Notification}
 use Rattle.firmware_core.specs.declared.frame.Frame.{Frame}
 use Rattle.firmware_core.specs.Harts.{Hart}
 use Rattle.firmware_core.specs.Parts.{Parts}
@@ -38,6 +38,31 @@ top_of frames = slice_get frames (length frames - 1)
 
 abbrev pub below_top : List Frame → List Frame
 below_top frames = take (length frames - 1) frames
+
+-- whether what began is a call of runtime code by the operating system
+abbrev pub is_runtime : Purpose → Bool
+is_runtime (Job handle) = false
+is_runtime (Image handle) = false
+is_runtime Call = false
+is_runtime Runtime = true
+is_runtime Notification = false
+
+abbrev pub of_runtime : Option Frame → Bool
+of_runtime None = false
+of_runtime (Some frame) = is_runtime frame.purpose
+
+-- A call of runtime code is under way: its frame is the outermost.
+abbrev pub in_call : Parts → Bool
+in_call f = of_runtime (slice_get f.frames 0)
+
+-- It is over: no frame stands.
+abbrev pub call_over : Parts → Parts
+call_over f = record f { frames = [] }
+
+-- What runs in a frame returns to the slot behind the services, but for a call of runtime code.
+abbrev pub returns_to_slot : Option Frame → Bool
+returns_to_slot None = false
+returns_to_slot (Some frame) = not (is_runtime frame.purpose)
 
 -- Code returns to the slot behind the services.
 abbrev pub return_address : Layout → ℕ

@@ -53,6 +53,7 @@ abbrev pub image_of : Purpose → Option ℕ
 image_of (purposes.Job handle) = Some handle
 image_of (purposes.Image handle) = Some handle
 image_of purposes.Call = None
+image_of purposes.Runtime = None
 image_of purposes.Notification = None
 
 -- the image that runs: that of the innermost frame, if that is an image's

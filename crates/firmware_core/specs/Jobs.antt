@@ -1,4 +1,4 @@
--- A job: an image that is started, and its turns to the end.
+-- A job: an image that is started or runtime code that is called, and its turns to the end.
 use Rattle.std.specs.Prelude.{ℕ, zero, suc, ◌≡◌, ◌≢◌, ◌-◌, ◌<◌, ◌≤◌, List, [], ◌∷◌, length, Bool, true, false, Option, Some, None, if◌then◌else◌}
 use Rattle.record_text.specs.declared.line.Line.{Line}
 use Rattle.record_text.specs.declared.cause.Cause.TheVariants as causes
@@ -7,14 +7,16 @@ use Rattle.event_queue.specs.Timers.{ticked}
 use Rattle.image_services.specs.Images.{Loaded, find_image}
 use Rattle.firmware_core.specs.declared.frame.Purpose.TheVariants as purposes
 use Rattle.firmware_core.specs.declared.happened.Happened.{Happened}
-use Rattle.firmware_core.specs.declared.happened.Happened.TheVariants.{Turned, Said, Left, Reset, Halted}
+use Rattle.firmware_core.specs.declared.happened.Happened.TheVariants.{Turned, Said, Left, Trapped, Reset, Halted}
 use Rattle.firmware_core.specs.declared.happened.JobEnd.{JobEnd}
 use Rattle.firmware_core.specs.declared.happened.JobEnd.TheVariants as ends
 use Rattle.firmware_core.specs.declared.job.Job as declared
-use Rattle.firmware_core.specs.declared.job.Job.TheVariants.{Start}
+use Rattle.firmware_core.specs.declared.job.Job.TheVariants.{Start, Call}
 use Rattle.firmware_core.specs.Parts.{Parts}
-use Rattle.firmware_core.specs.Frames.{tick_is_due, with_image}
-use Rattle.firmware_core.specs.Turns.{State, Turn, Next, Tick, Notice, Bound, Slot, Instruction, next_turn, turn_of}
+use Rattle.firmware_core.specs.Frames.{tick_is_due, with_image, in_call, call_over}
+use Rattle.firmware_core.specs.CallSpecs.{CallPlain}
+use Rattle.firmware_core.specs.RuntimeCalls.{with_runtime_call}
+use Rattle.firmware_core.specs.Turns.{State, Turn, Next, Tick, Notice, Bound, Return, Slot, Instruction, next_turn, bound_halt, turn_of}
 
 -- ---- the beginning
 
@@ -36,11 +38,16 @@ abbrev pub start_at : State → ℕ → ℕ → Option ℕ → Begun
 start_at s handle bound None = record { begins = false; state = s }
 start_at s handle bound (Some entry) = record { begins = true; state = started s handle entry bound }
 
--- Once boot services are over, none begins. (UEFI 2.10, 7.4.6: ExitBootServices)
+-- the machine with a call of runtime code that begins
+unfoldable pub called : State → CallPlain → State
+called s call = record { firmware = with_runtime_call s.firmware call; steps = 0; bound = call.bound; trace = s.trace }
+
+-- Once boot services are over, no image begins, and before none is called. (UEFI 2.10, 7.4.6: ExitBootServices)
 unfoldable pub begun : State → declared.Job → Begun
 begun s (Start handle bound) =
     if s.firmware.runtime.gone then record { begins = false; state = s }
     else start_at s handle bound (fresh_entry (find_image s.firmware.images handle))
+begun s (Call call) = if s.firmware.runtime.gone then record { begins = true; state = called s call } else record { begins = false; state = s }
 
 -- ---- turns that count no step
 
@@ -49,6 +56,7 @@ abbrev pub counts : Next → Bool
 counts Tick = false
 counts (Notice notify) = false
 counts Bound = true
+counts Return = true
 counts (Slot slot) = true
 counts Instruction = true
 
@@ -88,12 +96,15 @@ abbrev pub joined : Happened → State → Job → Job
 joined Turned state rest = rest
 joined (Said line) state rest = said_before line rest
 joined (Left value steps) state rest = record { lines = []; end = ends.Left value steps; state = state }
+joined (Trapped cause steps) state rest = record { lines = []; end = ends.Trapped cause steps; state = state }
 joined (Reset kind status) state rest = record { lines = []; end = ends.Reset kind status; state = state }
 joined (Halted halt) state rest = record { lines = []; end = ends.Halted halt; state = state }
 
--- the end of a job whose bound is reached
+-- the end of a job whose bound is reached: it ends a call of runtime code, and else the run
 abbrev pub at_bound : State → Job
-at_bound s = record { lines = []; end = ends.Halted (record { cause = causes.Bound; pc = s.firmware.hart.pc; at = 0 }); state = s }
+at_bound s =
+    if in_call s.firmware then record { lines = []; end = ends.Trapped causes.Bound s.steps; state = record s { firmware = call_over s.firmware } }
+    else record { lines = []; end = ends.Halted (bound_halt s.firmware); state = s }
 
 -- a job of at most so many counted turns, each behind those that count no step
 unfoldable pub turns_of : ℕ → State → Job
@@ -127,6 +138,7 @@ abbrev pub goes_on : Happened → Bool
 goes_on Turned = true
 goes_on (Said line) = true
 goes_on (Left value steps) = false
+goes_on (Trapped cause steps) = false
 goes_on (Reset kind status) = false
 goes_on (Halted halt) = false
 

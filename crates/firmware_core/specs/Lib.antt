@@ -9,6 +9,8 @@ pub mod ImageSlots
 pub mod Slots
 pub mod Turns
 pub mod Calls
+pub mod CallSpecs
+pub mod RuntimeCalls
 pub mod Jobs
 pub mod Runs
 pub mod Loads

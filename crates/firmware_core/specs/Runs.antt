@@ -3,7 +3,7 @@ use Rattle.std.specs.Prelude.{ℕ, zero, suc, ◌≡◌, ◌≤◌, List, [], �
 use Rattle.std.specs.List.{filter}
 use Rattle.event_queue.specs.Queue.{Whole}
 use Rattle.firmware_core.specs.declared.happened.Happened.TheVariants.{Turned}
-use Rattle.firmware_core.specs.Turns.{State, Next, Tick, Notice, Bound, Slot, Instruction, next_turn, turn_of}
+use Rattle.firmware_core.specs.Turns.{State, Next, Tick, Notice, Bound, Return, Slot, Instruction, next_turn, turn_of}
 use Rattle.firmware_core.specs.Jobs.{counts, goes_on}
 
 -- ---- between two counted steps
@@ -25,6 +25,7 @@ abbrev pub is_tick : Next → Bool
 is_tick Tick = true
 is_tick (Notice notify) = false
 is_tick Bound = false
+is_tick Return = false
 is_tick (Slot slot) = false
 is_tick Instruction = false
 
@@ -32,6 +33,7 @@ abbrev pub is_start : Next → Bool
 is_start Tick = false
 is_start (Notice notify) = true
 is_start Bound = false
+is_start Return = false
 is_start (Slot slot) = false
 is_start Instruction = false
 

@@ -26,7 +26,7 @@ use Rattle.image_calls.specs.Starts.{StartDone, outputs_given}
 use Rattle.firmware_core.specs.declared.frame.Ending.{Ending}
 use Rattle.firmware_core.specs.declared.frame.Frame.{Frame}
 use Rattle.firmware_core.specs.declared.frame.Purpose.{Purpose}
-use Rattle.firmware_core.specs.declared.frame.Purpose.TheVariants.{Job, Image, Call, Notification}
+use Rattle.firmware_core.specs.declared.frame.Purpose.TheVariants.{Job, Image, Call, Runtime, Notification}
 use Rattle.firmware_core.specs.declared.conclusion.Conclusion.{Conclusion}
 use Rattle.firmware_core.specs.declared.conclusion.Conclusion.TheVariants.{Answers, Prints, Continues, Leaves, Resets, Halts}
 use Rattle.firmware_core.specs.Harts.{Hart}
@@ -190,7 +190,7 @@ started_ended f handle back ending = with_outputs (image_ended (with_hart f back
 abbrev pub call_ended : Parts → Hart → ℕ → Concluded
 call_ended f back a0 = record { conclusion = Continues; firmware = record (with_hart f back) { returned = Some a0 } }
 
--- Behind a notification the hart is as it was.
+-- Behind a notification the hart is as it was. A call of runtime code leaves with a0; it doesn't return to a slot.
 unfoldable pub frame_ended : Parts → Frame → Ending → Concluded
 frame_ended f frame ending = by_purpose frame.purpose
   where
@@ -198,6 +198,7 @@ frame_ended f frame ending = by_purpose frame.purpose
     by_purpose Notification = record { conclusion = Continues; firmware = with_hart f frame.back }
     by_purpose (Job handle) = job_ended f handle frame.back.tpl ending.status
     by_purpose Call = call_ended f frame.back ending.status
+    by_purpose Runtime = record { conclusion = Leaves ending.status; firmware = f }
     by_purpose (Image handle) = started_ended f handle frame.back ending
 
 -- The innermost frame ends. With no frame no service ends one.

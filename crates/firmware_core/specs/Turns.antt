@@ -1,5 +1,5 @@
 -- One turn of the machine.
-use Rattle.std.specs.Prelude.{ℕ, ◌+◌, ◌-◌, ◌*◌, ◌/◌, ◌%◌, ◌^◌, ◌==◌, ◌&&◌, ◌||◌, not, nat_le, nat_lt, min, Bool, length, Option, Some, None, if◌then◌else◌}
+use Rattle.std.specs.Prelude.{ℕ, ◌+◌, ◌-◌, ◌*◌, ◌/◌, ◌%◌, ◌^◌, ◌==◌, ◌&&◌, ◌||◌, not, nat_le, min, Bool, true, false, Option, Some, None, if◌then◌else◌}
 use Rattle.rv_step.specs.declared.bus.Access.TheVariants as access
 use Rattle.rv_step.specs.declared.ends.Trap.{Trap}
 use Rattle.rv_step.specs.declared.ends.Trap.TheVariants as traps
@@ -9,13 +9,15 @@ use Rattle.record_text.specs.declared.cause.Cause.{Cause}
 use Rattle.record_text.specs.declared.cause.Cause.TheVariants as causes
 use Rattle.record_text.specs.declared.line.Line.TheVariants as lines
 use Rattle.virtual_map.specs.Instructions.{Carried, carried}
+use Rattle.firmware_core.specs.declared.happened.Halt.{Halt}
 use Rattle.firmware_core.specs.declared.happened.Happened.{Happened}
-use Rattle.firmware_core.specs.declared.happened.Happened.TheVariants.{Turned, Said, Left, Reset, Halted}
+use Rattle.firmware_core.specs.declared.happened.Happened.TheVariants.{Turned, Said, Left, Trapped, Reset, Halted}
 use Rattle.firmware_core.specs.declared.conclusion.Conclusion.{Conclusion}
 use Rattle.firmware_core.specs.declared.conclusion.Conclusion.TheVariants.{Answers, Prints, Continues, Leaves, Resets, Halts}
 use Rattle.event_queue.specs.declared.event.Notify.{Notify}
 use Rattle.firmware_core.specs.Parts.{Parts}
-use Rattle.firmware_core.specs.Frames.{answered, tick_is_due, with_tick, notice_of, without_notice, is_full, with_notification}
+use Rattle.firmware_core.specs.Frames.{answered, tick_is_due, with_tick, notice_of, without_notice, is_full, with_notification, top_of, in_call, call_over, returns_to_slot}
+use Rattle.firmware_core.specs.Services.{given}
 use Rattle.firmware_core.specs.Slots.{serve_slot}
 
 -- the parts, the job under way with its counted steps and their bound, and whether each answer of a service is a line
@@ -41,6 +43,29 @@ passed f = record f { time = min (f.time + 1) (2 ^ 64 - 1) }
 abbrev pub counted : State → Parts → State
 counted s f = record { firmware = passed f; steps = s.steps + 1; bound = s.bound; trace = s.trace }
 
+-- ---- a halt
+
+-- Traps and the bound end a call of runtime code.
+abbrev pub ends_call : Cause → Bool
+ends_call causes.Illegal = true
+ends_call causes.Ebreak = true
+ends_call causes.Ecall = true
+ends_call causes.Fetch = true
+ends_call causes.Load = true
+ends_call causes.Store = true
+ends_call causes.Bound = true
+ends_call causes.Idle = false
+ends_call causes.Tpl = false
+ends_call causes.BootGone = false
+ends_call causes.Depth = false
+ends_call causes.Frames = false
+
+-- Such a halt ends the call that is under way, and every other one the run.
+abbrev pub stopped : Halt → State → Turn
+stopped halt s =
+    if ends_call halt.cause && in_call s.firmware then record { happened = Trapped halt.cause s.steps; state = record s { firmware = call_over s.firmware } }
+    else record { happened = Halted halt; state = s }
+
 -- ---- which turn comes
 
 -- Slot k begins 16 k bytes into the slot page. Slots 0 to 66 are services, but for 17, which is reserved, and slot 67 is
@@ -48,9 +73,9 @@ counted s f = record { firmware = passed f; steps = s.steps + 1; bound = s.bound
 abbrev pub is_slot : ℕ → Bool
 is_slot offset = offset % 16 == 0 && (nat_le offset (16 * 67) && not (offset == 16 * 17))
 
--- Only what runs in a frame returns.
+-- Only what runs in a frame returns, and a call of runtime code doesn't return there.
 abbrev pub can_return : Parts → ℕ → Bool
-can_return f offset = not (offset == 16 * 67) || nat_lt 0 (length f.frames)
+can_return f offset = not (offset == 16 * 67) || returns_to_slot (top_of f.frames)
 
 abbrev pub offset_of : Parts → ℕ
 offset_of f = f.hart.pc - f.runtime.layout.slots
@@ -59,12 +84,17 @@ offset_of f = f.hart.pc - f.runtime.layout.slots
 abbrev pub slot_at : Parts → Option ℕ
 slot_at f = if nat_le f.runtime.layout.slots f.hart.pc && (is_slot (offset_of f) && can_return f (offset_of f)) then Some (offset_of f / 16) else None
 
--- A tick comes, or the start of a notification; or the job's bound is reached; or the service of a slot comes; or an
--- instruction.
+-- A call of runtime code returns to the first byte of the operating system's return page.
+abbrev pub is_returning : Parts → Bool
+is_returning f = f.hart.pc == f.runtime.layout.os_return && in_call f
+
+-- A tick comes, or the start of a notification; or the job's bound is reached; or the return of a call of runtime code comes, or
+-- the service of a slot, or an instruction.
 pub data Next : Type 0 where
   Tick : Next
   Notice : (notify : Notify) → Next
   Bound : Next
+  Return : Next
   Slot : (slot : ℕ) → Next
   Instruction : Next
 
@@ -74,7 +104,7 @@ by_slot (Some slot) = Slot slot
 
 -- a turn that counts a step, or the bound
 abbrev pub counted_next : State → Next
-counted_next s = if s.steps == s.bound then Bound else by_slot (slot_at s.firmware)
+counted_next s = if s.steps == s.bound then Bound else (if is_returning s.firmware then Return else by_slot (slot_at s.firmware))
 
 abbrev pub by_notice : Option Notify → State → Next
 by_notice (Some notify) s = Notice notify
@@ -115,16 +145,22 @@ comes_to slot pc s (Halts cause) f = record { happened = halted cause pc 0; stat
 unfoldable pub service_turn : ℕ → State → Turn
 service_turn slot s = comes_to slot s.firmware.hart.pc s (serve_slot slot s.firmware).conclusion (serve_slot slot s.firmware).firmware
 
+-- ---- the return of a call of runtime code
+
+-- It leaves with its a0.
+abbrev pub return_turn : State → Turn
+return_turn s = record { happened = Left (given 0 s.firmware) (s.steps + 1); state = counted s (call_over s.firmware) }
+
 -- ---- an instruction
 
--- A trap halts the run. An access that is refused names the first address without the right.
-abbrev pub trapped : Trap → ℕ → Happened
-trapped traps.Illegal pc = halted causes.Illegal pc 0
-trapped traps.Ebreak pc = halted causes.Ebreak pc 0
-trapped traps.Ecall pc = halted causes.Ecall pc 0
-trapped (traps.Fault at access.Load) pc = halted causes.Load pc at
-trapped (traps.Fault at access.Store) pc = halted causes.Store pc at
-trapped (traps.Fault at access.Fetch) pc = halted causes.Fetch pc at
+-- A trap is a halt. An access that is refused names the first address without the right.
+abbrev pub halt_of : Trap → ℕ → Halt
+halt_of traps.Illegal pc = record { cause = causes.Illegal; pc = pc; at = 0 }
+halt_of traps.Ebreak pc = record { cause = causes.Ebreak; pc = pc; at = 0 }
+halt_of traps.Ecall pc = record { cause = causes.Ecall; pc = pc; at = 0 }
+halt_of (traps.Fault at access.Load) pc = record { cause = causes.Load; pc = pc; at = at }
+halt_of (traps.Fault at access.Store) pc = record { cause = causes.Store; pc = pc; at = at }
+halt_of (traps.Fault at access.Fetch) pc = record { cause = causes.Fetch; pc = pc; at = at }
 
 abbrev pub with_carried : Parts → Carried → Parts
 with_carried f c = record f { hart = record f.hart { x = c.x; pc = c.pc }; runtime = c.runtime }
@@ -140,7 +176,7 @@ instructed f = let c = carried f.hart.x f.hart.pc f.runtime in record { end = c.
 -- what is made of an instruction at a program counter; a defined one never lacks memory of the host, and the machine stops there
 abbrev pub carried_out : ℕ → State → StepEnd → Parts → Turn
 carried_out pc s ends.Next f = record { happened = Turned; state = counted s f }
-carried_out pc s (ends.Trap trap) f = record { happened = trapped trap pc; state = record s { firmware = f } }
+carried_out pc s (ends.Trap trap) f = stopped (halt_of trap pc) (record s { firmware = f })
 carried_out pc s ends.Frames f = record { happened = halted causes.Frames pc 0; state = record s { firmware = f } }
 carried_out pc s ends.Memory f = record { happened = halted causes.Frames pc 0; state = record s { firmware = f } }
 
@@ -149,10 +185,15 @@ instruction_turn s = carried_out s.firmware.hart.pc s (instructed s.firmware).en
 
 -- ---- the turn
 
+-- the halt of a job whose bound is reached
+abbrev pub bound_halt : Parts → Halt
+bound_halt f = record { cause = causes.Bound; pc = f.hart.pc; at = 0 }
+
 abbrev pub by_next : Next → State → Turn
 by_next Tick s = tick_turn s
 by_next (Notice notify) s = notice_turn notify s
-by_next Bound s = record { happened = halted causes.Bound s.firmware.hart.pc 0; state = s }
+by_next Bound s = stopped (bound_halt s.firmware) s
+by_next Return s = return_turn s
 by_next (Slot slot) s = service_turn slot s
 by_next Instruction s = instruction_turn s
 

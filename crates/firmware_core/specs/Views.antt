@@ -3,15 +3,15 @@ use Rattle.std.specs.Prelude.{ℕ, ◌≡◌, ◌+◌, ◌-◌, ◌*◌, Option,
 use Rattle.event_queue.specs.declared.event.Notify.{Notify}
 use Rattle.firmware_core.specs.declared.happened.Halt.{Halt}
 use Rattle.firmware_core.specs.declared.happened.Happened.{Happened}
-use Rattle.firmware_core.specs.declared.happened.Happened.TheVariants.{Turned, Halted}
+use Rattle.firmware_core.specs.declared.happened.Happened.TheVariants.{Turned}
 use Rattle.firmware_core.specs.Frames.{tick_is_due, notice_of}
-use Rattle.firmware_core.specs.Turns.{State, Turn, notice_turn}
+use Rattle.firmware_core.specs.Turns.{State, Turn, notice_turn, stopped}
 use Rattle.firmware_core.specs.Jobs.{steps_left}
 
--- the turn of an instruction that was carried out, or that halts the run
+-- the turn of an instruction that was carried out, or that halts
 abbrev pub turn_by : Option Halt → State → Turn
 turn_by None state = record { happened = Turned; state = state }
-turn_by (Some halt) state = record { happened = Halted halt; state = state }
+turn_by (Some halt) state = stopped halt state
 
 -- the turn that a notification makes
 abbrev pub IsNotice : Option Notify → Happened → State → State → Type 0

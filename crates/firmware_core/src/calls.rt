@@ -26,15 +26,11 @@ fn call_argument(args: &[u64], n: usize) -> u64
 }
 
 impl Firmware {
-    /// What a call begins with.
-    fn call_registers(&self, args: &[u64]) -> [u64; 32]
-        ensures { result ≡ call_registers self.now.runtime.layout (aligned_stack self.now) args.now }
+    /// What a call begins with, on a stack.
+    pub(crate) fn call_registers(&self, sp: u64, args: &[u64]) -> [u64; 32]
+        ensures { result ≡ call_registers self.now.runtime.layout sp args.now }
     {
-        let mut x = self.registers_for(
-            self.aligned_stack(),
-            call_argument(args, 0),
-            call_argument(args, 1),
-        );
+        let mut x = self.registers_for(sp, call_argument(args, 0), call_argument(args, 1));
         x[12] = call_argument(args, 2);
         x[13] = call_argument(args, 3);
         x[14] = call_argument(args, 4);
@@ -49,7 +45,7 @@ impl Firmware {
     fn call(&mut self, pc: u64, args: &[u64]) -> Result<(), AllocError>
         ensures { OnOk result (self.new ≡ with_call self.old pc args.now) }
     {
-        let x = self.call_registers(args);
+        let x = self.call_registers(self.aligned_stack(), args);
         let hart = Hart {
             regs: Regs { x, pc },
             phase: Phase::Called,
@@ -77,7 +73,7 @@ impl Machine {
         ensures below { IfSome result (λ slot. self.now.steps < self.now.bound) }
     {
         self.whole();
-        if self.steps == self.bound {
+        if self.steps == self.bound || self.firmware.is_returning() {
             None
         } else {
             self.firmware.slot_at()
@@ -99,8 +95,8 @@ impl Machine {
         }
     }
 
-    /// The slot whose service is the next turn: None where that is a tick, the start of a notification, an instruction or the end
-    /// by the bound, and where no job is under way.
+    /// The slot whose service is the next turn: None where that is a tick, the start of a notification, the return of a call
+    /// of runtime code, an instruction or the end by the bound, and where no job is under way.
     #[tactic(auto, unfolding(crate::specs::Calls::pending_slot))]
     pub fn pending_slot(&self) -> Option<u8>
         ensures slot { result ≡ pending_slot self.now }

@@ -4,8 +4,8 @@ ghost use Rattle.page_alloc.specs.Layout.{IsRam};
 ghost use Rattle.rv_step.specs.declared.ends.StepEnd.TheVariants as ends;
 ghost use Rattle.firmware_core.specs.Opening.{opened};
 ghost use Rattle.firmware_core.specs.Parts.{Whole};
-ghost use Rattle.firmware_core.specs.Frames.{answered, aligned_stack, with_image, tick_is_due, with_tick, is_full, pushed, registers_for, notice_of, without_notice, with_notification};
-ghost use Rattle.firmware_core.specs.Turns.{slot_at, passed, Instructed, instructed};
+ghost use Rattle.firmware_core.specs.Frames.{answered, aligned_stack, is_runtime, in_call, call_over, top_of, returns_to_slot, with_image, tick_is_due, with_tick, is_full, pushed, registers_for, notice_of, without_notice, with_notification};
+ghost use Rattle.firmware_core.specs.Turns.{is_returning, slot_at, passed, Instructed, instructed};
 
 use crate::frame::{Frame, Hart, Phase, Purpose};
 use crate::opening::{layout_spreads, runtime_at, with_console};
@@ -58,6 +58,19 @@ impl Model for Firmware {
     ghost view = { λ f. record { hart = f.hart; frames = f.frames.items; time = f.time; runtime = f.runtime; pool = f.pool; images = f.images; protocols = f.protocols; events = f.events; variables = f.variables; clock = f.clock; count = f.count; returned = f.returned } };
 
     ghost invariant = { λ f. Whole (record { hart = f.hart; frames = f.frames.items; time = f.time; runtime = f.runtime; pool = f.pool; images = f.images; protocols = f.protocols; events = f.events; variables = f.variables; clock = f.clock; count = f.count; returned = f.returned }) × IsCode (see f.runtime.view) f.runtime.memory f.code };
+}
+
+/// Whether what began is a call of runtime code by the operating system.
+fn is_runtime(purpose: Purpose) -> bool
+    ensures { result ≡ is_runtime purpose }
+{
+    match purpose {
+        Purpose::Job(_) => false,
+        Purpose::Image(_) => false,
+        Purpose::Call => false,
+        Purpose::Runtime => true,
+        Purpose::Notification => false,
+    }
 }
 
 /// The most frames that stand, by this host's choice.
@@ -121,6 +134,41 @@ impl Firmware {
         self.hart.regs.pc
     }
 
+    /// Whether a call of runtime code by the operating system is under way.
+    pub(crate) fn in_call(&self) -> bool
+        ensures { result ≡ in_call self.now }
+    {
+        match self.frames.first() {
+            Some(frame) => is_runtime(frame.purpose),
+            None => false,
+        }
+    }
+
+    /// A call of runtime code is over.
+    pub(crate) fn end_call(&mut self)
+        ensures { self.new ≡ call_over self.old }
+    {
+        self.frames.clear();
+    }
+
+    /// Whether the innermost frame is one that slot 67 ends.
+    fn returns_to_slot(&self) -> bool
+        ensures { result ≡ returns_to_slot (top_of self.now.frames) }
+    {
+        match self.frames.last() {
+            Some(frame) => !is_runtime(frame.purpose),
+            None => false,
+        }
+    }
+
+    /// Whether a call of runtime code returns at the program counter.
+    #[inline(always)]
+    pub(crate) fn is_returning(&self) -> bool
+        ensures { result ≡ is_returning self.now }
+    {
+        self.hart.regs.pc == self.runtime.layout.os_return && self.in_call()
+    }
+
     /// The slot that the program counter is at.
     #[inline(always)]
     pub(crate) fn slot_at(&self) -> Option<u8>
@@ -134,7 +182,7 @@ impl Firmware {
         if offset % 16 == 0
             && offset <= 16 * 67
             && offset != 16 * 17
-            && (offset != 16 * 67 || !self.frames.is_empty())
+            && (offset != 16 * 67 || self.returns_to_slot())
         {
             Some((offset / 16) as u8)
         } else {

@@ -39,6 +39,8 @@ pub enum Purpose {
     Image(u64),
     /// A call of guest code by the host, at a slot that comes again behind it.
     Call,
+    /// A call of runtime code by the operating system.
+    Runtime,
     /// The notification of an event.
     Notification,
 }

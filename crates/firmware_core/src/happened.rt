@@ -20,6 +20,8 @@ pub enum Happened {
     Said(Line),
     /// The job is over: the status in a0, and the steps of the job.
     Left { value: u64, steps: u64 },
+    /// The job, a call of runtime code, is over by a trap or its bound: which, and the steps of the job.
+    Trapped { cause: Cause, steps: u64 },
     /// The run is over, by ResetSystem: the type of the reset, and its status (UEFI 2.10, 8.5.1).
     Reset { kind: u32, status: u64 },
     /// The run is over.
@@ -29,8 +31,10 @@ pub enum Happened {
 /// How a job ends.
 #[derive(Clone, Copy, Debug, PartialEq, Eq, Drop)]
 pub enum JobEnd {
-    /// The image returned: the status in a0, and the steps of the job.
+    /// The image or the call returned: the status in a0, and the steps of the job.
     Left { value: u64, steps: u64 },
+    /// A call of runtime code was ended by a trap or its bound: which, and the steps of the job.
+    Trapped { cause: Cause, steps: u64 },
     /// The run is over, by ResetSystem: the type of the reset, and its status (UEFI 2.10, 8.5.1).
     Reset { kind: u32, status: u64 },
     /// The run is over.

@@ -20,6 +20,7 @@ fn image_of(purpose: Purpose) -> Option<u64>
         Purpose::Job(handle) => Some(handle),
         Purpose::Image(handle) => Some(handle),
         Purpose::Call => None,
+        Purpose::Runtime => None,
         Purpose::Notification => None,
     }
 }

@@ -1,11 +1,12 @@
-//! A job: an image that is started, and its turns to the end.
+//! A job: an image that is started or runtime code that is called, and its turns to the end.
 ghost use Rattle.std.specs.Prelude.{◌≡◌, ◌<◌, IfOk, OnOk};
 ghost use Rattle.image_services.specs.Images.{find_image};
 ghost use Rattle.firmware_core.specs.declared.happened.Happened.TheVariants.{Turned};
 ghost use Rattle.firmware_core.specs.Turns.{turn_of};
-ghost use Rattle.firmware_core.specs.Jobs.{fresh_entry, begun, started, Says};
+ghost use Rattle.firmware_core.specs.Jobs.{fresh_entry, begun, started, called, Says};
 ghost use Rattle.firmware_core.specs.Views.{potential};
 
+use crate::call_spec::CallSpec;
 use crate::firmware::Firmware;
 use crate::frame::Purpose;
 use crate::happened::Happened;
@@ -16,10 +17,12 @@ use event_queue::{next_is_above, ticks_once};
 use std::alloc::{AllocError, Global};
 
 /// What a machine is to do.
-#[derive(Clone, Copy, Debug, PartialEq, Eq, Drop)]
+#[derive(Drop)]
 pub enum Job {
     /// Runs a loaded image, for at most so many steps.
     Start { handle: u64, bound: u64 },
+    /// Calls runtime code, as the operating system.
+    Call { call: CallSpec },
 }
 
 impl Machine {
@@ -34,6 +37,17 @@ impl Machine {
             .start(Purpose::Job(handle), handle, boot, entry)?;
         self.steps = 0;
         self.bound = bound;
+        Ok(())
+    }
+
+    /// Begins a call of runtime code.
+    #[tactic(auto, unfolding(crate::specs::Jobs::called))]
+    fn call(&mut self, call: &CallSpec) -> Result<(), AllocError>
+        ensures { OnOk result (self.new ≡ called self.old call.now) }
+    {
+        self.firmware.call_runtime(call)?;
+        self.steps = 0;
+        self.bound = call.bound;
         Ok(())
     }
 }
@@ -56,8 +70,8 @@ impl Firmware {
     }
 }
 
-/// Begins a job. False where its image isn't loaded or was started before, or boot services are over; then nothing changes. After want of memory the
-/// machine may only be dropped.
+/// Begins a job. False where its image isn't loaded or was started before, where an image is to start and boot services are over,
+/// or where code is to be called and they last; then nothing changes. After want of memory the machine may only be dropped.
 #[tactic(auto, unfolding(crate::specs::Jobs::begun))]
 pub fn begin(machine: &mut Machine, job: &Job) -> Result<bool, AllocError>
     ensures { IfOk result (λ begins. record { begins = begins; state = machine.new } ≡ begun machine.old job.now) }
@@ -74,6 +88,13 @@ pub fn begin(machine: &mut Machine, job: &Job) -> Result<bool, AllocError>
                 }
                 None => Ok(false),
             }
+        }
+        Job::Call { call } => {
+            if !machine.firmware.runtime.gone {
+                return Ok(false);
+            }
+            machine.call(call)?;
+            Ok(true)
         }
     }
 }
@@ -107,6 +128,9 @@ pub fn run_machine(alloc: Global, machine: &mut Machine) -> Result<Happened, All
             Ok(Happened::Turned) => {}
             Ok(Happened::Said(line)) => return Ok(Happened::Said(line)),
             Ok(Happened::Left { value, steps }) => return Ok(Happened::Left { value, steps }),
+            Ok(Happened::Trapped { cause, steps }) => {
+                return Ok(Happened::Trapped { cause, steps });
+            }
             Ok(Happened::Reset { kind, status }) => return Ok(Happened::Reset { kind, status }),
             Ok(Happened::Halted(halt)) => return Ok(Happened::Halted(halt)),
             Err(_) => return Err(AllocError),

@@ -5,6 +5,7 @@
 #![tactic(auto)]
 
 mod boot_end;
+mod call_spec;
 mod calls;
 mod conclusion;
 mod event_service;
@@ -22,11 +23,13 @@ mod machine;
 mod opening;
 mod plain;
 mod returning;
+mod runtime_call;
 mod service;
 mod serving;
 mod slots;
 mod turn;
 
+pub use call_spec::{CallBuffer, CallSpec};
 pub use happened::{Halt, Happened, JobEnd};
 pub use job::{Job, begin, run_machine};
 pub use laws::{free_turns_are_few, jobs_are_turns, jobs_end};

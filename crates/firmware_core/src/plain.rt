@@ -1,8 +1,7 @@
 //! Plain instructions, one after another.
 ghost use Rattle.std.specs.Prelude.{◌≡◌, ◌≤◌, ◌<◌, ◌+◌, ◌-◌, OnOk, IfOk, None, false};
 ghost use Rattle.event_queue.specs.Timers.{moment_ahead};
-ghost use Rattle.firmware_core.specs.declared.happened.Happened.TheVariants as happens;
-ghost use Rattle.firmware_core.specs.Turns.{slot_at, trapped, instruction_turn};
+ghost use Rattle.firmware_core.specs.Turns.{is_returning, slot_at, halt_of, instruction_turn};
 ghost use Rattle.firmware_core.specs.Frames.{Quiet};
 ghost use Rattle.firmware_core.specs.Jobs.{SilentlyTo};
 ghost use Rattle.firmware_core.specs.Views.{turn_by, potential};
@@ -15,8 +14,8 @@ use rv_step::{Access, StepEnd, Trap};
 use std::alloc::AllocError;
 
 /// The halt by a trap at a program counter.
-fn halt_by(trap: Trap, pc: u64) -> Halt
-    ensures { happens.Halted result ≡ trapped trap pc }
+fn halt_of(trap: Trap, pc: u64) -> Halt
+    ensures { result ≡ halt_of trap pc }
 {
     let (cause, at) = match trap {
         Trap::Illegal => (Cause::Illegal, 0),
@@ -61,18 +60,21 @@ impl Machine {
     }
 
     /// Carries out instructions up to a number of steps, up to which neither a tick nor a notification comes, as long as no
-    /// service comes. Gives the halt of one that ends the run, which isn't counted.
+    /// service and no return comes. Gives the halt of one that isn't carried out, which isn't counted.
     #[inline(never)]
     pub(crate) fn run_plain(&mut self, end: u64) -> Result<Option<Halt>, AllocError>
         requires end { end ≤ self.old.bound }
         requires quiet { self.old.steps < end → Quiet self.old.firmware (end - self.old.steps) }
         ensures silent { OnOk result (SilentlyTo self.old self.new) }
-        ensures one { end ≡ self.old.steps + 1 → slot_at self.old.firmware ≡ None → IfOk result (λ halt. turn_by halt self.new ≡ instruction_turn self.old) }
+        ensures one { end ≡ self.old.steps + 1 → is_returning self.old.firmware ≡ false → slot_at self.old.firmware ≡ None → IfOk result (λ halt. turn_by halt self.new ≡ instruction_turn self.old) }
         ensures bound { self.new.bound ≡ self.old.bound }
         ensures nearer { OnOk result (potential self.new ≤ potential self.old) }
     {
         self.whole();
         for step in self.steps..end {
+            if self.firmware.is_returning() {
+                return Ok(None);
+            }
             if self.firmware.slot_at().is_some() {
                 return Ok(None);
             }
@@ -80,7 +82,7 @@ impl Machine {
             match self.firmware.instruct() {
                 StepEnd::Next => self.count(),
                 StepEnd::Memory => return Err(AllocError),
-                StepEnd::Trap(trap) => return Ok(Some(halt_by(trap, pc))),
+                StepEnd::Trap(trap) => return Ok(Some(halt_of(trap, pc))),
                 StepEnd::Frames => {
                     return Ok(Some(Halt {
                         cause: Cause::Frames,

@@ -136,6 +136,7 @@ impl Firmware {
                 self.returned = Some(ending.status);
                 Ok(Conclusion::Continues)
             }
+            Purpose::Runtime => Ok(Conclusion::Leaves(ending.status)),
             Purpose::Job(handle) => Ok(self.end_job(handle, back.tpl, ending.status)),
             Purpose::Image(handle) => self.end_started(alloc, handle, back, ending),
         }

@@ -1,7 +1,7 @@
 //! One turn of the machine.
-ghost use Rattle.std.specs.Prelude.{◌≡◌, ◌<◌, None, IfOk};
+ghost use Rattle.std.specs.Prelude.{◌≡◌, ◌<◌, None, false, IfOk};
 ghost use Rattle.firmware_core.specs.Frames.{Quiet};
-ghost use Rattle.firmware_core.specs.Turns.{turn_of, by_next, counted_next, slot_at, service_turn, instruction_turn, told, comes_to, halted, counted};
+ghost use Rattle.firmware_core.specs.Turns.{turn_of, by_next, counted_next, is_returning, slot_at, service_turn, return_turn, instruction_turn, told, comes_to, ends_call, stopped, halted, counted};
 ghost use Rattle.firmware_core.specs.Views.{NoticeTurned};
 
 use crate::conclusion::Conclusion;
@@ -17,7 +17,41 @@ fn halted(cause: Cause, pc: u64, at: u64) -> Happened
     Happened::Halted(Halt { cause, pc, at })
 }
 
+/// Whether a halt for this cause ends a call of runtime code, and not the run.
+fn ends_call(cause: Cause) -> bool
+    ensures { result ≡ ends_call cause }
+{
+    match cause {
+        Cause::Illegal => true,
+        Cause::Ebreak => true,
+        Cause::Ecall => true,
+        Cause::Fetch => true,
+        Cause::Load => true,
+        Cause::Store => true,
+        Cause::Bound => true,
+        Cause::Idle => false,
+        Cause::Tpl => false,
+        Cause::BootGone => false,
+        Cause::Depth => false,
+        Cause::Frames => false,
+    }
+}
+
 impl Machine {
+    /// Makes of a halt the end of the call that is under way, or of the run.
+    fn stop(&mut self, halt: Halt) -> Happened
+        ensures { record { happened = result; state = self.new } ≡ stopped halt self.old }
+    {
+        if ends_call(halt.cause) && self.firmware.in_call() {
+            self.firmware.end_call();
+            return Happened::Trapped {
+                cause: halt.cause,
+                steps: self.steps,
+            };
+        }
+        Happened::Halted(halt)
+    }
+
     /// Counts a step.
     #[inline(always)]
     pub(crate) fn count(&mut self)
@@ -82,16 +116,31 @@ impl Machine {
         Ok(self.conclude(slot, pc, conclusion))
     }
 
+    /// The return of a call of runtime code.
+    fn return_turn(&mut self) -> Happened
+        requires { self.old.steps < self.old.bound }
+        ensures { record { happened = result; state = self.new } ≡ return_turn self.old }
+    {
+        let value = self.firmware.given(0);
+        self.firmware.end_call();
+        self.count();
+        Happened::Left {
+            value,
+            steps: self.steps,
+        }
+    }
+
     /// The instruction at the program counter.
     fn instruction_turn(&mut self) -> Result<Happened, AllocError>
         requires bound { self.old.steps < self.old.bound }
+        requires returning { is_returning self.old.firmware ≡ false }
         requires slot { slot_at self.old.firmware ≡ None }
         requires quiet { Quiet self.old.firmware 1 }
         ensures { IfOk result (λ h. record { happened = h; state = self.new } ≡ instruction_turn self.old) }
     {
         match self.run_plain(self.steps + 1) {
             Ok(None) => Ok(Happened::Turned),
-            Ok(Some(halt)) => Ok(Happened::Halted(halt)),
+            Ok(Some(halt)) => Ok(self.stop(halt)),
             Err(_) => Err(AllocError),
         }
     }
@@ -112,14 +161,22 @@ impl Machine {
         }
     }
 
-    /// A service or an instruction, unless the bound is reached.
+    /// The return of a call, a service or an instruction, unless the bound is reached.
     fn counted_turn(&mut self, alloc: Global) -> Result<Happened, AllocError>
         requires { Quiet self.old.firmware 1 }
         ensures { IfOk result (λ h. record { happened = h; state = self.new } ≡ by_next (counted_next self.old) self.old) }
     {
         self.whole();
         if self.steps == self.bound {
-            return Ok(halted(Cause::Bound, self.firmware.pc(), 0));
+            let pc = self.firmware.pc();
+            return Ok(self.stop(Halt {
+                cause: Cause::Bound,
+                pc,
+                at: 0,
+            }));
+        }
+        if self.firmware.is_returning() {
+            return Ok(self.return_turn());
         }
         match self.firmware.slot_at() {
             Some(slot) => self.service_turn(alloc, slot),
@@ -128,10 +185,11 @@ impl Machine {
     }
 }
 
-/// Makes one turn: a tick where one is due, else the start of the notification that comes next, else a service where the program
-/// counter is at its slot, else an instruction, unless the bound of the job is reached. A turn that halts leaves the parts as they
-/// were, but for the end of an image whose starter's outputs lack frames: it has gone by then. After want of memory the machine
-/// may only be dropped.
+/// Makes one turn: a tick where one is due, else the start of the notification that comes next, else the return of a call of
+/// runtime code, else a service where the program counter is at its slot, else an instruction, unless the bound of the job is
+/// reached. A turn that halts leaves the parts as they were, but for the end of an image whose starter's outputs lack frames: it
+/// has gone by then. A trap and the bound end a call of runtime code, and not the run. After want of memory the machine may only
+/// be dropped.
 pub fn step_machine(alloc: Global, machine: &mut Machine) -> Result<Happened, AllocError>
     ensures { IfOk result (λ h. record { happened = h; state = machine.new } ≡ turn_of machine.old) }
 {

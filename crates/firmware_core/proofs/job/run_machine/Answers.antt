@@ -1,5 +1,5 @@
 use Rattle.std.proofs.Common.{◌≡◌, arith, refl}
-use Rattle.firmware_core.specs.declared.happened.Happened.TheVariants.{Turned, Said, Left, Reset, Halted}
+use Rattle.firmware_core.specs.declared.happened.Happened.TheVariants.{Turned, Said, Left, Trapped, Reset, Halted}
 use Rattle.firmware_core.proofs.SilentLemmas.{silent_at_first, silent_round, says}
 use Rattle.firmware_core.proofs.job.run_machine.Goals as goal
 
@@ -24,6 +24,11 @@ pub returns-in-Ok-Left : goal.returns-in-Ok-Left
 returns-in-Ok-Left c =
     says c.jobs_are_turns.ensures _ _ _ _ c.loop-machine.invariant c.in-Ok.ensures.silent (Left c.in-Ok-Left.value c.in-Ok-Left.steps) (rw c.in-Ok-Left.field-0-is at c.in-Ok-Left.ensures.turn)
     (λ (e : Left c.in-Ok-Left.value c.in-Ok-Left.steps ≡ Turned). cc)
+
+pub returns-in-Ok-Trapped : goal.returns-in-Ok-Trapped
+returns-in-Ok-Trapped c =
+    says c.jobs_are_turns.ensures _ _ _ _ c.loop-machine.invariant c.in-Ok.ensures.silent (Trapped c.in-Ok-Trapped.cause c.in-Ok-Trapped.steps) (rw c.in-Ok-Trapped.field-0-is at c.in-Ok-Trapped.ensures.turn)
+    (λ (e : Trapped c.in-Ok-Trapped.cause c.in-Ok-Trapped.steps ≡ Turned). cc)
 
 pub returns-in-Ok-Reset : goal.returns-in-Ok-Reset
 returns-in-Ok-Reset c =

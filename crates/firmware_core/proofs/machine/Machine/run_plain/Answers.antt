@@ -1,6 +1,6 @@
 use Rattle.std.proofs.Common.{◌≡◌, ◌≤◌, arith, refl, sym, ap, subst, ◌∙◌}
 use Rattle.firmware_core.specs.Parts.{Parts}
-use Rattle.firmware_core.specs.Turns.{State, trapped}
+use Rattle.firmware_core.specs.Turns.{State, halt_of}
 use Rattle.firmware_core.proofs.TurnLemmas.{trap_leaves, frames_leave, next_is, none_by}
 use Rattle.firmware_core.specs.Jobs.{SilentlyTo}
 use Rattle.firmware_core.specs.Views.{potential}
@@ -47,8 +47,8 @@ returns-in-Trap-clause-nearer c =
 
 pub returns-in-Trap-clause-one : goal.returns-in-Trap-clause-one
 returns-in-Trap-clause-one c =
-    λ one none. trap_first _ _ _ _ (subst (λ (s : State). Silent c.args.self.now s c.loop-step.step c.args.end) (sym c.self-in-loop-step.view_is) c.loop-step.invariant) c.loop-step-test.true c.in-Trap.trap c.instruct.new.self
-    c.halt_by.result c.in-Trap.ensures (c.halt_by.ensures ∙ ap (trapped c.in-Trap.trap) c.pc-pc.ensures) one
+    λ one here none. trap_first _ _ _ _ (subst (λ (s : State). Silent c.args.self.now s c.loop-step.step c.args.end) (sym c.self-in-loop-step.view_is) c.loop-step.invariant) c.loop-step-test.true c.in-Trap.trap c.instruct.new.self
+    c.halt_of.result c.in-Trap.ensures (c.halt_of.ensures ∙ ap (halt_of c.in-Trap.trap) c.pc-pc.ensures) one
 
 pub returns-in-Frames-clause-silent : goal.returns-in-Frames-clause-silent
 returns-in-Frames-clause-silent c =
@@ -64,14 +64,14 @@ returns-in-Frames-clause-nearer c =
 
 pub returns-in-Frames-clause-one : goal.returns-in-Frames-clause-one
 returns-in-Frames-clause-one c =
-    λ one none. rw c.pc-pc.ensures (frames_first _ _ _ _ (subst (λ (s : State). Silent c.args.self.now s c.loop-step.step c.args.end) (sym c.self-in-loop-step.view_is) c.loop-step.invariant) c.loop-step-test.true c.instruct.new.self
+    λ one here none. rw c.pc-pc.ensures (frames_first _ _ _ _ (subst (λ (s : State). Silent c.args.self.now s c.loop-step.step c.args.end) (sym c.self-in-loop-step.view_is) c.loop-step.invariant) c.loop-step-test.true c.instruct.new.self
     c.in-Frames.ensures one)
 
 pub loop-step-preserved : goal.loop-step-preserved
 loop-step-preserved c =
     let none = none_by _ c.if-is_some.ensures in
     goes_silently _ _ _ _ (subst (λ (s : State). Silent c.args.self.now s c.loop-step.step c.args.end) (sym c.self-in-loop-step.view_is) c.loop-step.invariant) c.loop-step-test.true c.instruct.new.self c.count.new.self
-    (sym c.slot_at.ensures ∙ none) (next_is _ _ c.in-Next.ensures) c.count.ensures
+    (sym c.is_returning.ensures ∙ c.if-is_returning.false) (sym c.slot_at.ensures ∙ none) (next_is _ _ c.in-Next.ensures) c.count.ensures
 
 pub returns-clause-nearer : goal.returns-clause-nearer
 returns-clause-nearer c = silent_nearer _ _ _ _ c.loop-step.invariant
