@@ -1,4 +1,5 @@
 pub mod ByteLemmas
+pub mod CallLemmas
 pub mod ClockLemmas
 pub mod PartLemmas
 pub mod PutLemmas

@@ -1,10 +1,11 @@
 -- Steps under way: what was put, and what is still to come.
 use Rattle.memory_map.specs.declared.descriptor.Descriptor.{Descriptor}
-use Rattle.std.proofs.Common.{◌≡◌, ◌≢◌, ℕ, suc, arith, map, List, [], ◌∷◌, ◌++◌, Option, Result, Err, Bool, true, false, length, get_or, drop, ◌<◌, ◌≤◌, ◌+◌, refl, sym, ap, subst, ◌∙◌, append_assoc, append-nil}
+use Rattle.std.proofs.Common.{◌≡◌, ◌≢◌, ℕ, suc, arith, map, List, [], ◌∷◌, ◌++◌, Option, Result, Ok, Err, Bool, true, false, length, get_or, drop, ◌<◌, ◌≤◌, ◌+◌, refl, sym, ap, subst, ◌∙◌, append_assoc, append-nil}
 use Rattle.std.proofs.lemmas.List.{drop_more, drop_all, length-replicate}
 use Rattle.record_text.specs.declared.line.Line.{Line}
 use Rattle.record_text.specs.declared.line.Line.TheVariants as lines
 use Rattle.host_script.specs.declared.script.Step.{Step}
+use Rattle.host_script.specs.declared.script.Shown.{Shown}
 use Rattle.uh_base.specs.Told.{grown, GrownByPart}
 use Rattle.firmware_core.specs.declared.happened.JobEnd.{JobEnd}
 use Rattle.firmware_core.specs.Turns.{State}
@@ -18,9 +19,9 @@ use Rattle.variable_store.specs.Entries.{Entry}
 use Rattle.memory_map.specs.Map.{map_of}
 use Rattle.firmware_core.specs.Jobs.{Job, job_of}
 use Rattle.host_engine.specs.Jobs.{Ended, Puts, line_bytes, bytes_of}
-use Rattle.host_engine.specs.ScriptRuns.{row_of, map_lines, Running, Run, Ran, Stepped, Made, then_by, then_run, step_made, run_from, run_with, at_opening}
-use Rattle.host_engine.proofs.PutLemmas.{part_behind, grown-grown, both, first}
-use Rattle.host_engine.proofs.LineLemmas.{grown-nil, bytes_of-last, put_more, part_more}
+use Rattle.host_engine.specs.ScriptRuns.{row_of, map_lines, Running, Run, Ran, Stepped, Made, then_by, then_run, step_made, run_from, run_with, at_opening, shown_lines, with_shown}
+use Rattle.host_engine.proofs.PutLemmas.{part_behind, whole_behind, grown-grown, went, stopped, both, first}
+use Rattle.host_engine.proofs.LineLemmas.{grown-nil, bytes_of-append, bytes_of-last, put_more, part_more}
 
 -- ---- a job with its last line
 
@@ -189,3 +190,29 @@ rows_none whole ds old now e so_far = subst (λ (x : List Descriptor). RowsSoFar
 
 pub fewer_rows : (d : Descriptor) (ds rest : List Descriptor) → ds ≡ d ∷ rest → length rest < length ds
 fewer_rows d ds rest e = let same : length ds ≡ suc (length rest) = ap length e in omega arith
+
+-- ---- bytes that are shown behind a call
+
+module _ (s : Stepped) (show : List Shown) where
+  -- where the lines before them were stopped
+  pub shown_stops : (X Y : Type 0) (stop : Stop) (old new : Option (List ℕ)) (f h : ℕ) → Puts {X = X} (Err stop) (bytes_of s.lines) old f new h → Puts {X = Y} (Err stop) (bytes_of (with_shown show s).lines) old f new h
+  shown_stops X Y stop old new f h puts = first X Y stop (bytes_of s.lines) (bytes_of (shown_lines show s.course s.running)) _ old new f h (sym (bytes_of-append s.lines (shown_lines show s.course s.running))) puts
+
+  module _ (course : Course) (to : Running) (made : Made s course to) (old now new : Option (List ℕ)) (f g h : ℕ) (put : now ≡ grown old (bytes_of s.lines)) (le : f ≤ g) where
+    shown_text : bytes_of s.lines ++ bytes_of (shown_lines show course to) ≡ bytes_of (with_shown show s).lines
+    shown_text =
+        ap (λ (c : Course). bytes_of s.lines ++ bytes_of (shown_lines show c to)) made.is_course
+        ∙ ap (λ (r : Running). bytes_of s.lines ++ bytes_of (shown_lines show s.course r)) made.is_running ∙ sym (bytes_of-append s.lines (shown_lines show s.course s.running))
+
+    pub shown_put : (X Y : Type 0) (x : X) (y : Y) → Puts (Ok x) (bytes_of (shown_lines show course to)) now g new h → Puts (Ok y) (bytes_of (with_shown show s).lines) old f new h
+    shown_put X Y x y puts = went y _ old f new h (whole_behind old now new (bytes_of s.lines) (bytes_of (shown_lines show course to)) _ put shown_text puts.whole) (omega (arith, le, puts.never_falls))
+
+    pub shown_part : (X Y : Type 0) (stop : Stop) → Puts {X = X} (Err stop) (bytes_of (shown_lines show course to)) now g new h → Puts {X = Y} (Err stop) (bytes_of (with_shown show s).lines) old f new h
+    shown_part X Y stop puts = stopped X Y stop (bytes_of (shown_lines show course to)) _ old now new f g h le puts (part_behind old now new (bytes_of s.lines) (bytes_of (shown_lines show course to)) _ put shown_text puts.part)
+
+-- ---- a row for each item of a list
+
+module _ {V : Type 0} (line : V → Line) (items : List V) (i : ℕ) (whole : List Line) (old now : Option (List ℕ)) (so_far : RowsSoFar whole (map line (drop i items)) old now) where
+  -- the next one
+  pub item_first : (default : V) → i < length items → RowsSoFar whole (line (get_or items i default) ∷ map line (drop (i + 1) items)) old now
+  item_first default below = subst (λ (l : List V). RowsSoFar whole (map line l) old now) (drop_more items i default below) so_far

@@ -1,17 +1,29 @@
 -- The run of a script: the lines of its steps, in order.
-use Rattle.std.specs.Prelude.{◌≡◌, ◌⊎◌, ℕ, List, [], ◌∷◌, ◌++◌, ◌==◌, length, map, replicate, slice_index_or, slice_set, Bool, true, false, Option, Some, None, Result, Ok, Err, if◌then◌else◌}
+use Rattle.std.specs.Prelude.{◌≡◌, ◌⊎◌, ℕ, List, [], ◌∷◌, ◌++◌, ◌+◌, ◌*◌, ◌%◌, ◌^◌, ◌==◌, length, map, replicate, slice_index_or, slice_set, Bool, true, false, Option, Some, None, Result, Ok, Err, if◌then◌else◌}
 use Rattle.std.specs.List.{position_or_len}
 use Rattle.std.specs.Str.{bytes_eq}
 use Rattle.uh_base.specs.Statuses.{success, invalid_parameter}
 use Rattle.uh_base.specs.Counts.{Rose}
 use Rattle.uh_base.specs.Told.{grown, GrownByPart}
 use Rattle.record_text.specs.declared.line.Line.{Line}
+use Rattle.record_text.specs.declared.cause.Cause.{Cause}
+use Rattle.record_text.specs.declared.cause.Cause.TheVariants as causes
 use Rattle.record_text.specs.declared.line.Line.TheVariants as lines
+use Rattle.record_text.specs.Services.{service_name}
 use Rattle.host_script.specs.Plain.{Plain}
+use Rattle.host_script.specs.Steps.{CallPlain}
+use Rattle.host_script.specs.declared.script.Arg.{Arg}
+use Rattle.host_script.specs.declared.script.Arg.TheVariants as args
+use Rattle.host_script.specs.declared.script.Buffer.{Buffer}
+use Rattle.host_script.specs.declared.script.Shown.{Shown}
+use Rattle.host_script.specs.declared.script.Target.{Target}
+use Rattle.host_script.specs.declared.script.Target.TheVariants as targets
 use Rattle.host_script.specs.declared.script.ImageSpec.{ImageSpec}
 use Rattle.host_script.specs.declared.script.Step.{Step}
 use Rattle.host_script.specs.declared.script.Step.TheVariants.{Load, Unload, Start, ExitBoot, Check, Map, Call, Peek, MemMap, Vars}
 use Rattle.page_alloc.specs.Pages.{PageList}
+use Rattle.page_alloc.specs.declared.layout.Layout.{Layout}
+use Rattle.map_faults.specs.Grounds.{Kept}
 use Rattle.memory_map.specs.declared.descriptor.Descriptor.{Descriptor}
 use Rattle.memory_map.specs.Map.{map_of}
 use Rattle.guest_memory.specs.Pages as memory
@@ -26,7 +38,9 @@ use Rattle.variable_store.specs.Entries.{Entry}
 use Rattle.variable_store.specs.Reading.{store_in}
 use Rattle.variable_store.specs.Store.{store_of}
 use Rattle.firmware_core.specs.declared.happened.JobEnd.{JobEnd}
-use Rattle.firmware_core.specs.declared.happened.JobEnd.TheVariants.{Left, Reset, Halted}
+use Rattle.firmware_core.specs.declared.happened.JobEnd.TheVariants.{Left, Trapped, Reset, Halted}
+use Rattle.firmware_core.specs.declared.call_spec.CallBuffer.{CallBuffer}
+use Rattle.firmware_core.specs.CallSpecs as spec
 use Rattle.firmware_core.specs.declared.job.Job.TheVariants as jobs
 use Rattle.firmware_core.specs.Opening.{opened}
 use Rattle.firmware_core.specs.Turns.{State}
@@ -78,15 +92,22 @@ load_made name place file r = load_comes_to name place r.handles (loaded r.machi
 
 -- ---- start
 
+-- the line of a call that was ended by its bound or a trap
+abbrev pub stop_line : List ℕ → Cause → ℕ → Line
+stop_line name causes.Bound steps = lines.CallBound name steps
+stop_line name cause steps = lines.CallTrap name cause steps
+
 -- the last line of a job
 abbrev pub last_line : List ℕ → JobEnd → Line
 last_line name (Left value steps) = lines.Start name value steps
+last_line name (Trapped cause steps) = stop_line name cause steps
 last_line name (Reset kind status) = lines.Reset kind status
 last_line name (Halted halt) = lines.Halt halt.cause halt.pc halt.at
 
 -- A reset ends the run, and so does a halt.
 abbrev pub course_of : JobEnd → Course
 course_of (Left value steps) = GoesOn
+course_of (Trapped cause steps) = GoesOn
 course_of (Reset kind status) = Resets
 course_of (Halted halt) = Halts
 
@@ -122,9 +143,10 @@ unload_made name place r = unload_comes_to name r.handles (unloaded r.machine (h
 
 -- ---- exit_boot
 
--- the last line of the job that ends boot services
+-- the last line of the job that ends boot services; a trap halts the run there
 abbrev pub exit_line : JobEnd → Line
 exit_line (Left value steps) = lines.ExitBoot value
+exit_line (Trapped cause steps) = lines.Halt cause 0 0
 exit_line (Reset kind status) = lines.Reset kind status
 exit_line (Halted halt) = lines.Halt halt.cause halt.pc halt.at
 
@@ -140,6 +162,82 @@ exit_comes_to handles done =
 -- the end of boot services for the image at a place, with a key of the memory map or the present one
 unfoldable pub exit_made : ℕ → Option ℕ → Running → Stepped
 exit_made place key r = exit_comes_to r.handles (exited r.machine (handle_at r.handles place) key)
+
+-- ---- call
+
+-- the name of what is called: the image's or the service's
+abbrev pub called_name : Target → List ℕ
+called_name (targets.Image name at) = name
+called_name (targets.Service slot) = service_name slot
+
+-- an offset behind a place, as an address
+abbrev pub behind_place : ℕ → ℕ → ℕ
+behind_place place offset = (place + offset) % 2 ^ 64
+
+-- an offset of the image of a handle, if that was kept
+unfoldable pub kept_at : List Kept → ℕ → ℕ → Option ℕ
+kept_at [] handle at = None
+kept_at (image ∷ images) handle at = if image.handle == handle then Some (behind_place image.base at) else kept_at images handle at
+
+-- where a call begins, if what it calls is there; slot k is 16 k bytes into the slot page
+abbrev pub called_at : List ImageSpec → Target → Running → Option ℕ
+called_at images (targets.Image name at) r = kept_at r.machine.firmware.runtime.kept (handle_at r.handles (place_of images name)) at
+called_at images (targets.Service slot) r = Some (behind_place r.machine.firmware.runtime.layout.slots (16 * slot))
+
+abbrev pub argument_of : Layout → Arg → ℕ
+argument_of layout (args.Number n) = n
+argument_of layout (args.At offset) = behind_place layout.os_args offset
+
+abbrev pub buffer_of : Buffer → CallBuffer
+buffer_of buffer = record { offset = buffer.offset; bytes = buffer.hex }
+
+-- bytes of the operating system's arguments, as they lie in memory
+abbrev pub bytes_line : Layout → Pages → Shown → Line
+bytes_line layout m shown = lines.Bytes shown.offset (bytes_from (memory.bytes_of m) (behind_place layout.os_args shown.offset) shown.len)
+
+-- the last line of the job of a call
+abbrev pub call_line : List ℕ → JobEnd → Line
+call_line name (Left value steps) = lines.Call name value steps
+call_line name (Trapped cause steps) = stop_line name cause steps
+call_line name (Reset kind status) = lines.Reset kind status
+call_line name (Halted halt) = lines.Halt halt.cause halt.pc halt.at
+
+abbrev pub call_over : List ℕ → List ℕ → Job → Stepped
+call_over name handles job = record { lines = job.lines ++ call_line name job.end ∷ []; course = course_of job.end; running = record { machine = job.state; handles = handles } }
+
+-- the lines of the bytes that are to be shown, where the run goes on
+abbrev pub shown_lines : List Shown → Course → Running → List Line
+shown_lines show GoesOn r = map (bytes_line r.machine.firmware.runtime.layout r.machine.firmware.runtime.memory) show
+shown_lines show Resets r = []
+shown_lines show Halts r = []
+
+-- They come behind the line of the call.
+abbrev pub with_shown : List Shown → Stepped → Stepped
+with_shown show s = record s { lines = s.lines ++ shown_lines show s.course s.running }
+
+-- A call that can't begin is early.
+abbrev pub call_early : List ℕ → Running → Stepped
+call_early name r = record { lines = lines.CallEarly name ∷ []; course = GoesOn; running = r }
+
+abbrev pub call_comes_to : List ℕ → List Shown → Running → Begun → Stepped
+call_comes_to name show r call =
+    if call.begins then with_shown show (call_over name r.handles (job_of call.state))
+    else call_early name (record { machine = call.state; handles = r.handles })
+
+-- what a call at an address asks the machine for
+abbrev pub spec_of : Layout → ℕ → CallPlain → spec.CallPlain
+spec_of layout pc call = record { pc = pc; args = map (argument_of layout) call.args; buffers = map buffer_of call.buffers; bound = call.bound }
+
+abbrev pub call_begun : CallPlain → State → ℕ → Begun
+call_begun call s pc = begun s (jobs.Call (spec_of s.firmware.runtime.layout pc call))
+
+abbrev pub call_from : CallPlain → Running → Option ℕ → Stepped
+call_from call r None = call_early (called_name call.target) r
+call_from call r (Some pc) = call_comes_to (called_name call.target) call.show r (call_begun call r.machine pc)
+
+-- the call of runtime code
+unfoldable pub call_made : List ImageSpec → CallPlain → Running → Stepped
+call_made images call r = call_from call r (called_at images call.target r)
 
 -- ---- memmap
 
@@ -185,7 +283,7 @@ step_made script inputs MemMap r = map_made r
 step_made script inputs (ExitBoot name key) r = exit_made (place_of script.image name) key r
 step_made script inputs (Check name origin) r = nothing_made r
 step_made script inputs (Map map) r = nothing_made r
-step_made script inputs (Call call) r = nothing_made r
+step_made script inputs (Call call) r = call_made script.image call r
 step_made script inputs (Peek at len) r = peek_made at len r
 step_made script inputs Vars r = vars_made r
 

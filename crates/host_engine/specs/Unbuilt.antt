@@ -15,7 +15,7 @@ is_given (Some x) = true
 unfoldable pub asks_unbuilt : Plain → Bool
 asks_unbuilt script = is_given script.os_virtual
 
--- No virtual address map is made, no driver is checked, and no runtime code is called yet.
+-- No virtual address map is made, and no driver is checked yet.
 abbrev pub is_built : Step → Bool
 is_built (steps.Load image) = true
 is_built (steps.Unload image) = true
@@ -24,7 +24,7 @@ is_built steps.MemMap = true
 is_built (steps.ExitBoot image key) = true
 is_built (steps.Check image origin) = false
 is_built (steps.Map call) = false
-is_built (steps.Call call) = false
+is_built (steps.Call call) = true
 is_built (steps.Peek at len) = true
 is_built steps.Vars = true
 

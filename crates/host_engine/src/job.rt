@@ -54,6 +54,7 @@ pub fn run_job<O: Sink>(alloc: Global, machine: &mut Machine, out: &mut O) -> Re
                 Err(stop) => return Err(stop),
             },
             Ok(Happened::Left { value, steps }) => return Ok(JobEnd::Left { value, steps }),
+            Ok(Happened::Trapped { cause, steps }) => return Ok(JobEnd::Trapped { cause, steps }),
             Ok(Happened::Reset { kind, status }) => return Ok(JobEnd::Reset { kind, status }),
             Ok(Happened::Halted(halt)) => return Ok(JobEnd::Halted(halt)),
             Err(_) => return Err(Stop::Memory),

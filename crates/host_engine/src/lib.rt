@@ -3,6 +3,7 @@
 
 mod assembly;
 mod build;
+mod call_step;
 mod code;
 mod command;
 mod course;

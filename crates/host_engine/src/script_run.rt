@@ -14,8 +14,9 @@ ghost use Rattle.uh_base.specs.Answers.{Reads};
 ghost use Rattle.variable_store.specs.Reading.{named};
 ghost use Rattle.variable_store.specs.Store.{store_of};
 ghost use Rattle.host_engine.specs.declared.course.Course.TheVariants.{GoesOn};
-ghost use Rattle.host_engine.specs.ScriptRuns.{place_of, file_at, with_handle, handle_at, load_made, last_line, course_of, job_over, start_made, unload_made, exit_line, exit_over, exit_made, row_of, map_lines, peek_line, peek_made, vars_made, step_made, run_with, variables_in, run_of, at_opening, Made, RunGives};
+ghost use Rattle.host_engine.specs.ScriptRuns.{place_of, file_at, with_handle, handle_at, load_made, stop_line, last_line, course_of, job_over, start_made, unload_made, exit_line, exit_over, exit_made, row_of, map_lines, peek_line, peek_made, vars_made, step_made, run_with, variables_in, run_of, at_opening, Made, RunGives};
 
+use crate::call_step::call;
 use crate::code::ImageFile;
 use crate::course::Course;
 use crate::inputs::Inputs;
@@ -26,7 +27,7 @@ use guest_memory::GuestMemory;
 use host_script::{ImageSpec, Script, Step};
 use memory_map::{Descriptor, MapCursor};
 use page_alloc::PageMap;
-use record_text::Line;
+use record_text::{Cause, Line};
 use std::alloc::{AllocError, Global};
 use std::marker::Model;
 use time_service::Clock;
@@ -36,8 +37,8 @@ use variable_store::{StoreFault, Variables};
 /// The machine of a run, and for each image of the script the handle of the one that was loaded last, 0 where none was.
 #[derive(Drop)]
 pub struct Running {
-    machine: Machine,
-    handles: Vec<u64>,
+    pub(crate) machine: Machine,
+    pub(crate) handles: Vec<u64>,
 }
 
 impl Model for Running {
@@ -49,7 +50,7 @@ impl Model for Running {
 }
 
 /// The place of an image among those of a script, by its name.
-fn place_of(images: &[ImageSpec], name: &str) -> usize
+pub(crate) fn place_of(images: &[ImageSpec], name: &str) -> usize
     ensures { result ≡ place_of images.now name.now }
 {
     let mut place = 0;
@@ -71,7 +72,7 @@ fn file_at(files: &[ImageFile], place: usize) -> &ImageFile
 }
 
 /// A name once more.
-fn copy_of(alloc: Global, name: &Text) -> Result<Text, Stop>
+pub(crate) fn copy_of(alloc: Global, name: &Text) -> Result<Text, Stop>
     ensures same { IfOk result (λ copy. copy ≡ name.now) }
     ensures memory { OnErr result (result ≡ Err Stop.Memory) }
 {
@@ -147,7 +148,7 @@ impl Running {
     }
 
     /// The handle of the image at a place.
-    fn handle_at(&self, place: usize) -> u64
+    pub(crate) fn handle_at(&self, place: usize) -> u64
         requires { place < length self.now.handles }
         ensures { result ≡ handle_at self.now.handles place }
     {
@@ -186,18 +187,19 @@ fn load_image<O: Sink>(
 }
 
 /// How the run stands behind a job.
-fn course_of(end: &JobEnd) -> Course
+pub(crate) fn course_of(end: &JobEnd) -> Course
     ensures { result ≡ course_of end.now }
 {
     match end {
         JobEnd::Left { .. } => Course::GoesOn,
+        JobEnd::Trapped { .. } => Course::GoesOn,
         JobEnd::Reset { .. } => Course::Resets,
         JobEnd::Halted(_) => Course::Halts,
     }
 }
 
 /// The line of a halt.
-fn halt_line(halt: Halt) -> Line
+pub(crate) fn halt_line(halt: Halt) -> Line
     ensures { result ≡ lines.Halt halt.cause halt.pc halt.at }
 {
     Line::Halt {
@@ -205,6 +207,24 @@ fn halt_line(halt: Halt) -> Line
         h0: halt.pc,
         h1: halt.at,
     }
+}
+
+/// Puts the line of a call that was ended by its bound or a trap.
+pub(crate) fn put_stop<O: Sink>(
+    alloc: Global,
+    name: &Text,
+    cause: Cause,
+    steps: u64,
+    out: &mut O,
+) -> Result<(), Stop>
+    ensures { Puts result (line_bytes (stop_line name.now cause steps)) (O.written out.old) (O.faults out.old) (O.written out.new) (O.faults out.new) }
+{
+    let name = copy_of(alloc, name)?;
+    let line = match cause {
+        Cause::Bound => Line::CallBound { name, steps },
+        cause => Line::CallTrap { name, cause, steps },
+    };
+    say(alloc, line, out)
 }
 
 /// Puts the last line of a job.
@@ -215,6 +235,7 @@ fn put_last<O: Sink>(alloc: Global, name: &Text, end: JobEnd, out: &mut O) -> Re
     let course = course_of(&end);
     let put = match end {
         JobEnd::Left { value, steps } => put_start(alloc, name, value, steps, out),
+        JobEnd::Trapped { cause, steps } => put_stop(alloc, name, cause, steps, out),
         JobEnd::Reset { kind, status } => say(alloc, Line::Reset { kind, h0: status }, out),
         JobEnd::Halted(halt) => say(alloc, halt_line(halt), out),
     };
@@ -305,6 +326,10 @@ fn put_exit<O: Sink>(alloc: Global, end: JobEnd, out: &mut O) -> Result<Course, 
     let course = course_of(&end);
     let put = match end {
         JobEnd::Left { value, .. } => say(alloc, Line::ExitBoot { h0: value }, out),
+        JobEnd::Trapped { cause, .. } => {
+            let (h0, h1) = (0, 0);
+            say(alloc, Line::Halt { cause, h0, h1 }, out)
+        }
         JobEnd::Reset { kind, status } => say(alloc, Line::Reset { kind, h0: status }, out),
         JobEnd::Halted(halt) => say(alloc, halt_line(halt), out),
     };
@@ -501,7 +526,7 @@ fn make_step<O: Sink>(
         }
         Step::Check { .. } => make_nothing(out),
         Step::Map(_) => make_nothing(out),
-        Step::Call(_) => make_nothing(out),
+        Step::Call(step) => call(alloc, script.image.as_slice(), step, running, out),
         Step::Peek { at, len } => put_peek(alloc, *at, *len, running, out),
         Step::Vars => put_vars(alloc, running, out),
         Step::MemMap => match put_map(alloc, running.machine.pages(), out) {

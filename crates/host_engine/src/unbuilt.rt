@@ -28,7 +28,7 @@ fn is_built(step: &Step) -> bool
         Step::ExitBoot { .. } => true,
         Step::Check { .. } => false,
         Step::Map(_) => false,
-        Step::Call(_) => false,
+        Step::Call(_) => true,
         Step::Peek { .. } => true,
         Step::MemMap => true,
         Step::Vars => true,

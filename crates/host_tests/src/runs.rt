@@ -95,6 +95,7 @@ pub(crate) fn replaced(alloc: Global, text: &str, word: &str, with: &str) -> Res
     Ok(made)
 }
 
+/// Stops the test unless a run answered and put this.
 pub(crate) fn expect(rt: &impl Abort, ran: &Answered, status: Status, text: &str, message: &str) {
     assert_eq!(rt; ran.status, status);
     assert!(rt; ran.out.written() == text.as_bytes());

@@ -1,4 +1,6 @@
-use Rattle.std.proofs.Common.{◌∙◌, ap}
+use Rattle.std.proofs.Common.{◌∙◌, List, length, ap, sym, subst}
+use Rattle.host_script.specs.Forms.{IsCall}
+use Rattle.host_script.specs.declared.script.ImageSpec.{ImageSpec}
 use Rattle.host_script.specs.Plain.{Plain}
 use Rattle.host_engine.proofs.PlaceLemmas.{is_handed, place_below}
 use Rattle.host_engine.proofs.script_run.make_step.Goals as goal
@@ -31,3 +33,11 @@ exit_boot-requires g c = record {
   known = place_below c.as_slice-in-ExitBoot.result.now c.args.script.now.image c.as_str-in-ExitBoot.result.now c.place_of-place-in-ExitBoot.result _ (rw c.as_str-in-ExitBoot.ensures (rw c.in-ExitBoot.is at c.requires.known)) c.place_of-place-in-ExitBoot.ensures
       (c.as_slice-in-ExitBoot.ensures.value ∙ ap (λ (s : Plain). s.image) c.script.view_is) c.requires.handles;
 }
+
+pub call-requires : goal.call-requires
+call-requires g c =
+    let same = c.as_slice-in-Call.ensures.value ∙ ap (λ (s : Plain). s.image) c.script.view_is in
+    record {
+      handles = c.requires.handles ∙ ap length (sym same);
+      known = subst (λ (images : List ImageSpec). IsCall images c.in-Call.step) (sym same) (rw c.in-Call.is at c.requires.known);
+    }
