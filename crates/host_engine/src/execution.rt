@@ -35,7 +35,8 @@ pub fn execution_reaches_its_end()
     ensures { ExecutionsEnd }
 {}
 
-/// Makes at most so many steps.
+/// Makes at most so many steps. It is a function of its own, so that the loop has the registers to itself.
+#[inline(never)]
 pub fn execute(
     known: &mut KnownWords,
     regs: &mut Regs,
