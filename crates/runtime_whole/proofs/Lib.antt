@@ -1,0 +1,4 @@
+pub mod ListLemmas
+pub mod MarkLemmas
+pub mod BootLemmas
+pub mod EndLemmas

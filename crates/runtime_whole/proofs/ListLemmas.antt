@@ -1,0 +1,49 @@
+-- Lists with a part of them made the same.
+use Rattle.std.proofs.Common.{◌≡◌, ◌⊎◌, ℕ, zero, suc, ◌+◌, ◌≤◌, ◌<◌, Bool, true, List, [], ◌∷◌, ◌++◌, length, take, drop, replicate, refl, ap, arith, inl, inr, Some}
+use Rattle.std.specs.Prelude.{slice_get, slice_set}
+use Rattle.guest_memory.specs.Lists.{filled}
+use Rattle.guest_memory.specs.Pages.{or_false}
+
+in_first : {X : Type 0} (n : ℕ) (x : X) (ys : List X) (k : ℕ) → k < n → slice_get (replicate n x ++ ys) k ≡ Some x
+in_first zero x ys k l = absurd (omega arith)
+in_first (suc n) x ys zero l = refl
+in_first (suc n) x ys (suc k) l = in_first n x ys k (omega arith)
+
+-- what is there, among those that are made the same, is made so
+pub inside : {X : Type 0} (xs zs : List X) (i n k : ℕ) (x y : X) → slice_get xs k ≡ Some y → i ≤ k → k < i + n → slice_get (take i xs ++ (replicate n x ++ zs)) k ≡ Some x
+inside [] zs i n k x y e low high = let bad : ⊥ = cc in absurd bad
+inside (w ∷ ws) zs zero n k x y e low high = in_first n x zs k (omega arith)
+inside (w ∷ ws) zs (suc i) n zero x y e low high = absurd (omega arith)
+inside (w ∷ ws) zs (suc i) n (suc k) x y e low high = inside ws zs i n k x y e (omega arith) (omega arith)
+
+beyond : {X : Type 0} (xs : List X) (n k : ℕ) (x y : X) → slice_get xs k ≡ Some y → n ≤ k → slice_get (replicate n x ++ drop n xs) k ≡ Some y
+beyond xs zero k x y e l = e
+beyond [] (suc n) k x y e l = let bad : ⊥ = cc in absurd bad
+beyond (w ∷ ws) (suc n) zero x y e l = absurd (omega arith)
+beyond (w ∷ ws) (suc n) (suc k) x y e l = beyond ws n k x y e (omega arith)
+
+-- what is there, apart from those, stays
+pub outside : {X : Type 0} (xs : List X) (i n k : ℕ) (x y : X) → slice_get xs k ≡ Some y → (k < i) ⊎ (i + n ≤ k) → slice_get (filled xs i n x) k ≡ Some y
+outside xs zero n k x y e (inl before) = absurd (omega arith)
+outside xs zero n k x y e (inr behind) = beyond xs n k x y e (omega arith)
+outside [] (suc i) n k x y e w = let bad : ⊥ = cc in absurd bad
+outside (v ∷ vs) (suc i) n zero x y e w = e
+outside (v ∷ vs) (suc i) n (suc k) x y e (inl before) = outside vs i n k x y e (inl (omega arith))
+outside (v ∷ vs) (suc i) n (suc k) x y e (inr behind) = outside vs i n k x y e (inr (omega arith))
+
+pub there : (marks : List Bool) (k : ℕ) → or_false (slice_get marks k) ≡ true → slice_get marks k ≡ Some true
+there [] k h = let bad : ⊥ = cc in absurd bad
+there (mark ∷ marks) zero h = ap Some h
+there (mark ∷ marks) (suc k) h = there marks k h
+
+pub set_keeps : (marks : List Bool) (i k : ℕ) → or_false (slice_get marks k) ≡ true → or_false (slice_get (slice_set marks i true) k) ≡ true
+set_keeps [] i k h = h
+set_keeps (mark ∷ marks) zero zero h = refl
+set_keeps (mark ∷ marks) zero (suc k) h = h
+set_keeps (mark ∷ marks) (suc i) zero h = h
+set_keeps (mark ∷ marks) (suc i) (suc k) h = set_keeps marks i k h
+
+pub exists : {X : Type 0} (xs : List X) (k : ℕ) → k < length xs → (x : X) × (slice_get xs k ≡ Some x)
+exists [] k l = absurd (omega arith)
+exists (x ∷ xs) zero l = (x, refl)
+exists (x ∷ xs) (suc k) l = exists xs k (omega arith)

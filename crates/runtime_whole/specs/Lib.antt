@@ -1,0 +1,4 @@
+pub mod Boots
+pub mod Guards
+pub mod Ends
+pub mod Laws

@@ -1,0 +1,40 @@
+//! What the definitions come to. Each law is the contract of a function that does nothing.
+#![tactic(auto)]
+
+ghost use Rattle.runtime_whole.specs.Laws.{OpeningIsWhole, HandlesKeep, GuardedSuffice, WritesKeep, EndIsWhole};
+
+use image_services::images_stay_in_order;
+use map_transition::places_are_firmwares;
+use page_alloc::opening_covers_ram;
+
+/// At opening, with no image, the state is as it has to be while boot services last.
+pub fn opening_is_whole()
+    ensures { OpeningIsWhole }
+{
+    opening_covers_ram();
+    places_are_firmwares();
+}
+
+/// It stays so where handles are made.
+pub fn handles_keep()
+    ensures { HandlesKeep }
+{
+    images_stay_in_order();
+}
+
+/// It stays so where guarded pages, those of the firmware and of images, are left as they are.
+pub fn guarded_suffice()
+    ensures { GuardedSuffice }
+{}
+
+/// It stays so where bytes are written and pages touched, as by stores of code and by outputs of services.
+pub fn writes_keep()
+    ensures { WritesKeep }
+{}
+
+/// Behind the end of boot services the state is whole, as the making of a virtual address map asks.
+pub fn end_is_whole()
+    ensures { EndIsWhole }
+{
+    places_are_firmwares();
+}

@@ -1,0 +1,7 @@
+//! The state that runtime services need is whole once boot services have ended: what has to be so of it before, and what
+//! keeps that (UEFI 2.10, section 7.4.6).
+#![tactic(auto)]
+
+mod laws;
+
+pub use laws::{end_is_whole, guarded_suffice, handles_keep, opening_is_whole, writes_keep};
