@@ -1,11 +1,16 @@
 -- What the definitions come to.
-use Rattle.std.specs.Prelude.{ℕ, ◌≤◌, List, []}
+use Rattle.std.specs.Prelude.{ℕ, ◌≤◌, List, [], Option}
+use Rattle.rv_step.specs.declared.ends.StepEnd.{StepEnd}
 use Rattle.guest_memory.specs.declared.rights.Rights.{Rights}
 use Rattle.guest_memory.specs.Pages.{Pages}
 use Rattle.guest_memory.specs.Pages as memory
 use Rattle.event_queue.specs.Queue as events
 use Rattle.event_queue.specs.Queue.{EventList}
+use Rattle.address_view.specs.Stored.{stored}
 use Rattle.virtual_map.specs.States.{Runtime, SameParts}
+use Rattle.virtual_map.specs.Instructions.{CarriesOut}
+use Rattle.runtime_turn.specs.declared.call.RtEnd.{RtEnd}
+use Rattle.runtime_turn.specs.Turns.{TurnEnds}
 use Rattle.map_transition.specs.Laws.{StayTouched}
 use Rattle.map_transition.specs.Wholes.{Whole}
 use Rattle.image_services.specs.Images.{Loaded}
@@ -29,6 +34,22 @@ GuardedSuffice = (old new : Runtime) (images : List Loaded) (made : ℕ) → Boo
 abbrev pub WritesKeep : Type 0
 WritesKeep = (old new : Runtime) (images : List Loaded) (made : ℕ) → BootWhole old images made → SameParts old new → StayTouched old.memory new.memory → BootWhole new images made
 
+-- So it does where bytes are stored at addresses that show memory by any view, and where an instruction ends, however.
+abbrev pub StoresKeep : Type 0
+StoresKeep = (r : Runtime) (images : List Loaded) (made : ℕ) (shown : ℕ → Option ℕ) (at : ℕ) (bytes : List ℕ) → BootWhole r images made
+    → BootWhole (record r { memory = stored shown r.memory at bytes }) images made
+
+abbrev pub InstructionsKeep : Type 0
+InstructionsKeep = (end : StepEnd) (x : List ℕ) (pc : ℕ) (r : Runtime) (x2 : List ℕ) (pc2 : ℕ) (r2 : Runtime) (images : List Loaded) (made : ℕ) → BootWhole r images made
+    → SameParts r r2 → CarriesOut end x pc r x2 pc2 r2 → BootWhole r2 images made
+
 -- The end of boot services makes a whole state.
 abbrev pub EndIsWhole : Type 0
 EndIsWhole = (r : Runtime) (images : List Loaded) (made : ℕ) (s : EventList) → BootWhole r images made → memory.Whole r.memory → events.Whole s → Whole (boot_ended r images s)
+
+-- It stays whole where bytes are stored, and where a turn at run time ends, however.
+abbrev pub StoresStayWhole : Type 0
+StoresStayWhole = (r : Runtime) (shown : ℕ → Option ℕ) (at : ℕ) (bytes : List ℕ) → Whole r → Whole (record r { memory = stored shown r.memory at bytes })
+
+abbrev pub TurnsStayWhole : Type 0
+TurnsStayWhole = (end : RtEnd) (x : List ℕ) (pc : ℕ) (r : Runtime) (x2 : List ℕ) (pc2 : ℕ) (r2 : Runtime) → Whole r → SameParts r r2 → TurnEnds end x pc r x2 pc2 r2 → Whole r2

@@ -1,10 +1,10 @@
 //! What the definitions come to. Each law is the contract of a function that does nothing.
 #![tactic(auto)]
 
-ghost use Rattle.runtime_whole.specs.Laws.{OpeningIsWhole, HandlesKeep, GuardedSuffice, WritesKeep, EndIsWhole};
+ghost use Rattle.runtime_whole.specs.Laws.{OpeningIsWhole, HandlesKeep, GuardedSuffice, WritesKeep, StoresKeep, InstructionsKeep, EndIsWhole, StoresStayWhole, TurnsStayWhole};
 
 use image_services::images_stay_in_order;
-use map_transition::places_are_firmwares;
+use map_transition::{places_are_firmwares, touched_stay, whole_stays};
 use page_alloc::opening_covers_ram;
 
 /// At opening, with no image, the state is as it has to be while boot services last.
@@ -32,9 +32,26 @@ pub fn writes_keep()
     ensures { WritesKeep }
 {}
 
+/// It stays so where bytes are stored, through any view, and behind each instruction, however it ends.
+pub fn instructions_keep()
+    ensures stores { StoresKeep }
+    ensures instructions { InstructionsKeep }
+{
+    touched_stay();
+}
+
 /// Behind the end of boot services the state is whole, as the making of a virtual address map asks.
 pub fn end_is_whole()
     ensures { EndIsWhole }
 {
     places_are_firmwares();
+}
+
+/// It stays whole where bytes are stored, through any view, and behind each turn at run time, however it ends.
+pub fn turns_stay_whole()
+    ensures stores { StoresStayWhole }
+    ensures turns { TurnsStayWhole }
+{
+    touched_stay();
+    whole_stays();
 }

@@ -4,4 +4,7 @@
 
 mod laws;
 
-pub use laws::{end_is_whole, guarded_suffice, handles_keep, opening_is_whole, writes_keep};
+pub use laws::{
+    end_is_whole, guarded_suffice, handles_keep, instructions_keep, opening_is_whole,
+    turns_stay_whole, writes_keep,
+};
