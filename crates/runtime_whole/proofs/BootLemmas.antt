@@ -1,13 +1,14 @@
 -- While boot services last.
-use Rattle.std.proofs.Common.{◌≡◌, ℕ, ◌+◌, ◌*◌, ◌-◌, ◌/◌, ◌%◌, ◌≤◌, ◌<◌, List, length, get_or, refl, sym, ap, subst, ◌∙◌, arith}
+use Rattle.std.proofs.Common.{◌≡◌, ℕ, ◌+◌, ◌*◌, ◌-◌, ◌/◌, ◌%◌, ◌≤◌, ◌<◌, List, length, get_or, refl, sym, ap, subst, ◌∙◌, arith, true, Some}
 use Rattle.guest_memory.specs.declared.rights.Rights.{Rights}
-use Rattle.guest_memory.specs.Pages.{Pages}
+use Rattle.guest_memory.specs.Pages.{Pages, touched_at}
 use Rattle.guest_memory.specs.Changes.{reserved}
 use Rattle.page_alloc.specs.declared.layout.Layout.{Layout}
 use Rattle.page_alloc.specs.Layout.{IsLayout, layout_at, end_of}
 use Rattle.page_alloc.specs.Opening.{firmware}
-use Rattle.page_alloc.specs.Pages.{PageList}
+use Rattle.page_alloc.specs.Pages.{PageList, page_at}
 use Rattle.page_alloc.specs.Laws.{OpeningCoversRam}
+use Rattle.map_faults.specs.Rules.{behind}
 use Rattle.virtual_map.specs.States.{Runtime, SameParts}
 use Rattle.map_transition.specs.Images.{AreTouched}
 use Rattle.map_transition.specs.Laws.{AreFirmwares, PlacesAtOpening, StayTouched}
@@ -94,40 +95,53 @@ handles law r images made later b l = record {
 
 -- ---- guarded pages
 
-places_stay : (old new : Runtime) → AreFirmwares old.layout old.pages → LeavesGuarded old new → AreFirmwares new.layout new.pages
-places_stay old new p h =
-    rw h.layout (record {
-      os = λ at low high. h.pages at (firmware 2) (p.os at low high, refl);
-      boot = λ at low high. h.pages at (firmware 4) (p.boot at low high, refl);
-      system = λ at low high. h.pages at (firmware 6) (p.system at low high, refl);
-      slots = λ at low high. h.pages at (firmware 5) (p.slots at low high, refl);
+-- the firmware's pages stay its own
+pub places_by : (old new : Runtime) → new.layout ≡ old.layout → ((at t : ℕ) → page_at old.pages at ≡ Some (firmware t) → page_at new.pages at ≡ Some (firmware t)) → AreFirmwares old.layout old.pages → AreFirmwares new.layout new.pages
+places_by old new same stay p =
+    rw same (record {
+      os = λ at low high. stay at 2 (p.os at low high);
+      boot = λ at low high. stay at 4 (p.boot at low high);
+      system = λ at low high. stay at 6 (p.system at low high);
+      slots = λ at low high. stay at 5 (p.slots at low high);
     })
 
-pub placed_stays : (old new : Runtime) (image : Loaded) → LeavesGuarded old new → IsPlaced old image → IsPlaced new image
-placed_stays old new image h p = record {
+-- the pages of an image stay its own, and touched
+pub record Stays (old new : Runtime) (image : Loaded) : Type 0 where
+  pub page : (at : ℕ) → image.base ≤ at → at < behind image.base image.pages → page_at old.pages at ≡ Some (image_page image) → page_at new.pages at ≡ Some (image_page image)
+  pub mark : (at : ℕ) → image.base ≤ at → at < behind image.base image.pages → page_at old.pages at ≡ Some (image_page image) → touched_at old.memory at ≡ true → touched_at new.memory at ≡ true
+
+pub placed_by : (old new : Runtime) (image : Loaded) → new.layout ≡ old.layout → Stays old new image → IsPlaced old image → IsPlaced new image
+placed_by old new image same h p = record {
   on_page = p.on_page;
-  low = rw h.layout p.low;
-  high = rw h.layout p.high;
-  pages = λ at low high. h.pages at (image_page image) (p.pages at low high, refl);
+  low = rw same p.low;
+  high = rw same p.high;
+  pages = λ at low high. h.page at low high (p.pages at low high);
   sites = record {
     sites = p.sites.sites;
     words = p.sites.words;
     marks = p.sites.marks;
     touched = λ k d l at low high. (
         let inside = p.sites.sites.inside k d l in
-        h.touched at (image_page image) (p.pages at (omega (arith, low)) (omega (arith, high, inside)), refl) (p.sites.touched k d l at low high));
+        let from : image.base ≤ at = omega (arith, low) in
+        let to : at < behind image.base image.pages = omega (arith, high, inside) in
+        h.mark at from to (p.pages at from to) (p.sites.touched k d l at low high));
   };
 }
 
-arguments_stay : (old new : Runtime) (images : List Loaded) (made : ℕ) → BootWhole old images made → LeavesGuarded old new → AreTouched new.memory new.layout.os_args new.layout.os_return
-arguments_stay old new images made b h =
+-- the pages of the operating system's arguments stay touched
+pub arguments_by : (old new : Runtime) (images : List Loaded) (made : ℕ) → BootWhole old images made → new.layout ≡ old.layout → ((at : ℕ) → page_at old.pages at ≡ Some (firmware 2) → touched_at old.memory at ≡ true → touched_at new.memory at ≡ true)
+    → AreTouched new.memory new.layout.os_args new.layout.os_return
+arguments_by old new images made b same stay =
     let s = spread old.layout b.ram.is_layout in
-    rw h.layout (λ at low high. h.touched at (firmware 2) (b.places.os at (omega (arith, s.os, s.args, low)) (omega (arith, s.back, s.boot, high)), refl) (b.arguments at low high))
+    rw same (λ at low high. stay at (b.places.os at (omega (arith, s.os, s.args, low)) (omega (arith, s.back, s.boot, high))) (b.arguments at low high))
+
+placed_stays : (old new : Runtime) (image : Loaded) → LeavesGuarded old new → IsPlaced old image → IsPlaced new image
+placed_stays old new image h p = placed_by old new image h.layout (record { page = λ at low high e. h.pages at (image_page image) (e, refl); mark = λ at low high e t. h.touched at (image_page image) (e, refl) t }) p
 
 pub guarded : GuardedSuffice
 guarded old new images made b h = record {
   ram = h.ram;
-  places = places_stay old new b.places h;
+  places = places_by old new h.layout (λ at t e. h.pages at (firmware t) (e, refl)) b.places;
   view = h.view ∙ rw h.layout b.view;
   gone = h.gone ∙ b.gone;
   mapped = h.mapped ∙ b.mapped;
@@ -135,7 +149,7 @@ guarded old new images made b h = record {
   apart = b.apart;
   few = b.few;
   order = b.order;
-  arguments = arguments_stay old new images made b h;
+  arguments = arguments_by old new images made b h.layout (λ at e t. h.touched at (firmware 2) (e, refl) t);
 }
 
 -- ---- writes

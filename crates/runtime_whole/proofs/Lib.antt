@@ -3,3 +3,8 @@ pub mod MarkLemmas
 pub mod BootLemmas
 pub mod EndLemmas
 pub mod TurnLemmas
+pub mod PageLemmas
+pub mod SiteLemmas
+pub mod LoadParts
+pub mod PoolLemmas
+pub mod LoadLemmas

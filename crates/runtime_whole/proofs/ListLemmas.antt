@@ -1,6 +1,7 @@
 -- Lists with a part of them made the same.
-use Rattle.std.proofs.Common.{◌≡◌, ◌⊎◌, ℕ, zero, suc, ◌+◌, ◌≤◌, ◌<◌, Bool, true, List, [], ◌∷◌, ◌++◌, length, take, drop, replicate, refl, ap, arith, inl, inr, Some}
+use Rattle.std.proofs.Common.{◌≡◌, ◌⊎◌, ℕ, zero, suc, ◌+◌, ◌-◌, ◌≤◌, ◌<◌, min, Bool, true, List, [], ◌∷◌, ◌++◌, length, take, drop, replicate, refl, ap, arith, inl, inr, Some, length-append, length-drop}
 use Rattle.std.specs.Prelude.{slice_get, slice_set}
+use Rattle.std.proofs.lemmas.List.{length-replicate, length-take}
 use Rattle.guest_memory.specs.Lists.{filled}
 use Rattle.guest_memory.specs.Pages.{or_false}
 
@@ -47,3 +48,14 @@ pub exists : {X : Type 0} (xs : List X) (k : ℕ) → k < length xs → (x : X) 
 exists [] k l = absurd (omega arith)
 exists (x ∷ xs) zero l = (x, refl)
 exists (x ∷ xs) (suc k) l = exists xs k (omega arith)
+
+-- no list gets shorter
+pub still_there : {X : Type 0} (xs : List X) (i n k : ℕ) (x : X) → k < length xs → k < length (filled xs i n x)
+still_there xs i n k x l =
+    let a = length-append (take i xs) (replicate n x ++ drop n (drop i xs)) in
+    let b = length-append (replicate n x) (drop n (drop i xs)) in
+    let c = length-take i xs in
+    let d = length-replicate n x in
+    let e = length-drop n (drop i xs) in
+    let f = length-drop i xs in
+    omega (arith, a, b, c, d, e, f, l)

@@ -13,6 +13,7 @@ use Rattle.image_services.specs.Blocks.{code_type}
 use Rattle.image_services.specs.Images.{Loaded, most_images}
 use Rattle.image_services.specs.Kept.{kept_image}
 use Rattle.image_services.specs.Laws.{AreInOrder}
+use Rattle.image_services.specs.Stores.{Store}
 
 -- a page of an image's, of the memory type of its code (UEFI 2.10, table 7.10)
 abbrev pub image_page : Loaded → Page
@@ -51,3 +52,13 @@ pub record BootWhole (r : Runtime) (images : List Loaded) (made : ℕ) : Type 0 
   pub order : AreInOrder images made
   -- the operating system's arguments are touched
   pub arguments : AreTouched r.memory r.layout.os_args r.layout.os_return
+
+-- ---- what image services work on
+
+-- the state with the memory and the page map of a store
+abbrev pub with_store : Runtime → Store → Runtime
+with_store r s = record r { memory = s.memory; pages = s.pages }
+
+-- It is so of a store's memory, page map, images and handles, beside the rest of a state.
+abbrev pub StoreWhole : Runtime → Store → Type 0
+StoreWhole r s = BootWhole (with_store r s) s.images s.protocols.handles.made

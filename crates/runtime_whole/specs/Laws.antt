@@ -1,9 +1,11 @@
 -- What the definitions come to.
-use Rattle.std.specs.Prelude.{ℕ, ◌≤◌, List, [], Option}
+use Rattle.std.specs.Prelude.{ℕ, ◌≤◌, ◌<◌, List, [], Option, Result}
+use Rattle.std.specs.List.{All}
 use Rattle.rv_step.specs.declared.ends.StepEnd.{StepEnd}
 use Rattle.guest_memory.specs.declared.rights.Rights.{Rights}
 use Rattle.guest_memory.specs.Pages.{Pages}
 use Rattle.guest_memory.specs.Pages as memory
+use Rattle.page_alloc.specs.Pages as pages
 use Rattle.event_queue.specs.Queue as events
 use Rattle.event_queue.specs.Queue.{EventList}
 use Rattle.address_view.specs.Stored.{stored}
@@ -13,8 +15,16 @@ use Rattle.runtime_turn.specs.declared.call.RtEnd.{RtEnd}
 use Rattle.runtime_turn.specs.Turns.{TurnEnds}
 use Rattle.map_transition.specs.Laws.{StayTouched}
 use Rattle.map_transition.specs.Wholes.{Whole}
+use Rattle.pool_alloc.specs.Pool.{IsPool, Together}
+use Rattle.protocol_db.specs.Calls.{Installation}
+use Rattle.image_services.specs.declared.refusal.LoadRefusal.{LoadRefusal}
+use Rattle.image_services.specs.declared.refusal.UnloadRefusal.{UnloadRefusal}
 use Rattle.image_services.specs.Images.{Loaded}
-use Rattle.runtime_whole.specs.Boots.{BootWhole}
+use Rattle.image_services.specs.Stores.{Store}
+use Rattle.image_services.specs.Loads.{load_counting}
+use Rattle.image_services.specs.Unloads.{discarded, unloaded}
+use Rattle.image_services.specs.Views.{LoadGives, UnloadGives}
+use Rattle.runtime_whole.specs.Boots.{BootWhole, StoreWhole}
 use Rattle.runtime_whole.specs.Guards.{LeavesGuarded}
 use Rattle.runtime_whole.specs.Ends.{IsOpened, boot_ended}
 
@@ -42,6 +52,19 @@ StoresKeep = (r : Runtime) (images : List Loaded) (made : ℕ) (shown : ℕ → 
 abbrev pub InstructionsKeep : Type 0
 InstructionsKeep = (end : StepEnd) (x : List ℕ) (pc : ℕ) (r : Runtime) (x2 : List ℕ) (pc2 : ℕ) (r2 : Runtime) (images : List Loaded) (made : ℕ) → BootWhole r images made
     → SameParts r r2 → CarriesOut end x pc r x2 pc2 r2 → BootWhole r2 images made
+
+-- It stays so where an image file, whose numbers are bytes, is loaded, or refused, or where the host lacks memory for it.
+abbrev pub LoadsKeep : Type 0
+LoadsKeep = (r : Runtime) (s after : Store) (file : List ℕ) (parent : ℕ) (also : List ℕ) (result : Result Installation LoadRefusal) → StoreWhole r s → pages.Whole s.pages → memory.Whole s.memory
+    → All (λ (byte : ℕ). byte < 256) file → LoadGives result (load_counting r.layout s file parent also) s after → StoreWhole r after
+
+-- It stays so where an image is discarded, known or not, and where one is unloaded, or not.
+abbrev pub DiscardsKeep : Type 0
+DiscardsKeep = (r : Runtime) (s : Store) (handle : ℕ) → StoreWhole r s → pages.Whole s.pages → IsPool s.pool → Together s.pool s.pages → StoreWhole r (discarded s handle)
+
+abbrev pub UnloadsKeep : Type 0
+UnloadsKeep = (r : Runtime) (s after : Store) (handle : ℕ) (result : Result (Unit {0}) UnloadRefusal) → StoreWhole r s → pages.Whole s.pages → IsPool s.pool → Together s.pool s.pages
+    → UnloadGives result (unloaded s handle) s after → StoreWhole r after
 
 -- The end of boot services makes a whole state.
 abbrev pub EndIsWhole : Type 0

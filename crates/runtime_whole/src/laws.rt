@@ -1,11 +1,13 @@
 //! What the definitions come to. Each law is the contract of a function that does nothing.
 #![tactic(auto)]
 
-ghost use Rattle.runtime_whole.specs.Laws.{OpeningIsWhole, HandlesKeep, GuardedSuffice, WritesKeep, StoresKeep, InstructionsKeep, EndIsWhole, StoresStayWhole, TurnsStayWhole};
+ghost use Rattle.runtime_whole.specs.Laws.{OpeningIsWhole, HandlesKeep, GuardedSuffice, WritesKeep, StoresKeep, InstructionsKeep, LoadsKeep, EndIsWhole, StoresStayWhole, TurnsStayWhole};
 
+use base_reloc::{read_sites_are_sound, sites_are_entries};
 use image_services::images_stay_in_order;
 use map_transition::{places_are_firmwares, touched_stay, whole_stays};
-use page_alloc::opening_covers_ram;
+use page_alloc::{calls_leave_others, opening_covers_ram};
+use pe_image::read_images_are_sound;
 
 /// At opening, with no image, the state is as it has to be while boot services last.
 pub fn opening_is_whole()
@@ -38,6 +40,17 @@ pub fn instructions_keep()
     ensures instructions { InstructionsKeep }
 {
     touched_stay();
+}
+
+/// It stays so where an image file is loaded or refused, and where the host lacks memory for it.
+pub fn loads_keep()
+    ensures { LoadsKeep }
+{
+    calls_leave_others();
+    read_images_are_sound();
+    read_sites_are_sound();
+    sites_are_entries();
+    images_stay_in_order();
 }
 
 /// Behind the end of boot services the state is whole, as the making of a virtual address map asks.
