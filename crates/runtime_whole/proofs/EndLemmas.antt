@@ -29,19 +29,11 @@ use Rattle.image_services.specs.Kept.{is_runtime_driver, kept_image, kept_driver
 use Rattle.runtime_whole.specs.Boots.{IsPlaced, ShareNone, BootWhole}
 use Rattle.runtime_whole.specs.Ends.{boot_ended}
 use Rattle.runtime_whole.specs.Laws.{EndIsWhole}
-use Rattle.runtime_whole.proofs.ListLemmas.{set_keeps}
+use Rattle.runtime_whole.proofs.ListLemmas.{few_left, set_keeps}
 use Rattle.runtime_whole.proofs.MarkLemmas.{is_held, is_marked, stay_marked, reserved_keeps, reserved_marks}
 use Rattle.runtime_whole.proofs.BootLemmas.{spread}
 
 -- ---- counts
-
-few_left : {X : Type 0} (p : X → Bool) (xs : List X) → length (filter p xs) ≤ length xs
-few_left p [] = omega arith
-few_left p (x ∷ xs) = by (p x) (few_left p xs)
-  where
-    by : (b : Bool) → length (filter p xs) ≤ length xs → length (if b then x ∷ filter p xs else filter p xs) ≤ suc (length xs)
-    by true h = omega (arith, h)
-    by false h = omega (arith, h)
 
 abbrev below : ℕ → Event → Bool
 below tpl event = nat_lt event.tpl tpl

@@ -8,3 +8,4 @@ pub mod SiteLemmas
 pub mod LoadParts
 pub mod PoolLemmas
 pub mod LoadLemmas
+pub mod DiscardLemmas

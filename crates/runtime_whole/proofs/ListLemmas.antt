@@ -1,6 +1,7 @@
 -- Lists with a part of them made the same.
-use Rattle.std.proofs.Common.{◌≡◌, ◌⊎◌, ℕ, zero, suc, ◌+◌, ◌-◌, ◌≤◌, ◌<◌, min, Bool, true, List, [], ◌∷◌, ◌++◌, length, take, drop, replicate, refl, ap, arith, inl, inr, Some, length-append, length-drop}
-use Rattle.std.specs.Prelude.{slice_get, slice_set}
+use Rattle.std.proofs.Common.{◌≡◌, ◌⊎◌, ℕ, zero, suc, ◌+◌, ◌-◌, ◌≤◌, ◌<◌, min, Bool, true, false, List, [], ◌∷◌, ◌++◌, length, take, drop, replicate, refl, ap, subst, arith, inl, inr, Some, None, length-append, length-drop}
+use Rattle.std.specs.Prelude.{find, slice_get, slice_set, if◌then◌else◌}
+use Rattle.std.specs.List.{All, filter}
 use Rattle.std.proofs.lemmas.List.{length-replicate, length-take}
 use Rattle.guest_memory.specs.Lists.{filled}
 use Rattle.guest_memory.specs.Pages.{or_false}
@@ -59,3 +60,24 @@ still_there xs i n k x l =
     let e = length-drop n (drop i xs) in
     let f = length-drop i xs in
     omega (arith, a, b, c, d, e, f, l)
+
+pub few_left : {X : Type 0} (p : X → Bool) (xs : List X) → length (filter p xs) ≤ length xs
+few_left p [] = omega arith
+few_left p (x ∷ xs) = by (p x) (few_left p xs)
+  where
+    by : (b : Bool) → length (filter p xs) ≤ length xs → length (if b then x ∷ filter p xs else filter p xs) ≤ suc (length xs)
+    by true h = omega (arith, h)
+    by false h = omega (arith, h)
+
+pub all_cons : {X : Type 0} (P : X → Type 0) (x : X) (xs : List X) → P x → All P xs → All P (x ∷ xs)
+all_cons P x xs p all zero d l = p
+all_cons P x xs p all (suc k) d l = all k d (omega (arith, l))
+
+-- what is found is so as all are
+pub found_all : {X : Type 0} (P : X → Type 0) (test : X → Bool) (xs : List X) (x : X) → All P xs → find test xs ≡ Some x → P x
+found_all P test [] x all e = let bad : ⊥ = cc in absurd bad
+found_all P test (y ∷ ys) x all e = by (test y) e (λ h. found_all P test ys x (λ k d l. all (suc k) d (omega (arith, l))) h)
+  where
+    by : (b : Bool) → (if b then Some y else find test ys) ≡ Some x → (find test ys ≡ Some x → P x) → P x
+    by true h rest = let same : y ≡ x = cc in subst P same (all 0 y (omega arith))
+    by false h rest = rest h

@@ -120,7 +120,7 @@ owners_differ Pool other g h = let bad : ⊥ = cc in absurd bad
 owners_differ owner Firmware g h = let bad : ⊥ = cc in absurd bad
 owners_differ owner Image g h = let bad : ⊥ = cc in absurd bad
 
-unlike : (a b : Page) → Some a ≡ Some b → is_guarded a.owner ≡ true → is_guarded b.owner ≡ false → ⊥
+pub unlike : (a b : Page) → Some a ≡ Some b → is_guarded a.owner ≡ true → is_guarded b.owner ≡ false → ⊥
 unlike a b e g h =
     let same : a ≡ b = some_same a b e in
     let bad : is_guarded b.owner ≡ true = subst (λ (p : Page). is_guarded p.owner ≡ true) same g in

@@ -1,13 +1,14 @@
 //! What the definitions come to. Each law is the contract of a function that does nothing.
 #![tactic(auto)]
 
-ghost use Rattle.runtime_whole.specs.Laws.{OpeningIsWhole, HandlesKeep, GuardedSuffice, WritesKeep, StoresKeep, InstructionsKeep, LoadsKeep, EndIsWhole, StoresStayWhole, TurnsStayWhole};
+ghost use Rattle.runtime_whole.specs.Laws.{OpeningIsWhole, HandlesKeep, GuardedSuffice, WritesKeep, StoresKeep, InstructionsKeep, LoadsKeep, DiscardsKeep, UnloadsKeep, EndIsWhole, StoresStayWhole, TurnsStayWhole};
 
 use base_reloc::{read_sites_are_sound, sites_are_entries};
 use image_services::images_stay_in_order;
 use map_transition::{places_are_firmwares, touched_stay, whole_stays};
-use page_alloc::{calls_leave_others, opening_covers_ram};
+use page_alloc::{calls_leave_others, opening_covers_ram, others_stay};
 use pe_image::read_images_are_sound;
+use pool_alloc::pool_leaves_others;
 
 /// At opening, with no image, the state is as it has to be while boot services last.
 pub fn opening_is_whole()
@@ -50,6 +51,17 @@ pub fn loads_keep()
     read_images_are_sound();
     read_sites_are_sound();
     sites_are_entries();
+    images_stay_in_order();
+}
+
+/// It stays so where an image goes, with its protocol, its block and its pages, and where it isn't known or was started.
+pub fn discards_keep()
+    ensures discards { DiscardsKeep }
+    ensures unloads { UnloadsKeep }
+{
+    calls_leave_others();
+    others_stay();
+    pool_leaves_others();
     images_stay_in_order();
 }
 

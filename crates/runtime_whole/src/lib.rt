@@ -5,6 +5,6 @@
 mod laws;
 
 pub use laws::{
-    end_is_whole, guarded_suffice, handles_keep, instructions_keep, loads_keep, opening_is_whole,
-    turns_stay_whole, writes_keep,
+    discards_keep, end_is_whole, guarded_suffice, handles_keep, instructions_keep, loads_keep,
+    opening_is_whole, turns_stay_whole, writes_keep,
 };
