@@ -8,4 +8,7 @@ pub mod SiteLemmas
 pub mod LoadParts
 pub mod PoolLemmas
 pub mod LoadLemmas
+pub mod KeepLemmas
 pub mod DiscardLemmas
+pub mod ServiceLemmas
+pub mod WriteLemmas

@@ -1,7 +1,7 @@
 -- An image is loaded.
-use Rattle.std.proofs.Common.{◌≡◌, ◌⊎◌, ℕ, zero, suc, ◌+◌, ◌*◌, ◌-◌, ◌/◌, ◌%◌, ◌^◌, ◌≤◌, ◌<◌, Bool, true, false, List, [], ◌∷◌, ◌++◌, length, length-append, get_or, refl, sym, ap, subst, ◌∙◌, arith, inl, inr, Some, None}
-use Rattle.std.specs.Prelude.{slice_get, nat_le, nat_lt, ◌==◌, Option, Result, Ok, Err, if◌then◌else◌}
-use Rattle.std.specs.List.{All, AllPairs}
+use Rattle.std.proofs.Common.{◌≡◌, ℕ, zero, suc, ◌+◌, ◌*◌, ◌-◌, ◌/◌, ◌%◌, ◌^◌, ◌≤◌, ◌<◌, Bool, true, false, List, [], ◌∷◌, ◌++◌, length, length-append, get_or, refl, sym, ap, subst, ◌∙◌, arith, inl, inr, Some, None}
+use Rattle.std.specs.Prelude.{slice_get, nat_lt, ◌==◌, Option, Ok, Err, if◌then◌else◌}
+use Rattle.std.specs.List.{All}
 use Rattle.std.proofs.lemmas.Bool.Decides.{nat_tests, leb_tells}
 use Rattle.std.proofs.lemmas.List.{length-replicate}
 use Rattle.std.proofs.lemmas.List.Elements.{All-push}
@@ -21,10 +21,9 @@ use Rattle.pe_image.specs.ImageOf.{Fields, image_of, is_subsystem}
 use Rattle.pe_image.specs.Sound.{IsImage}
 use Rattle.pe_image.specs.Placed.{in_pages, placed_byte}
 use Rattle.base_reloc.specs.declared.site.Site.{Site}
-use Rattle.base_reloc.specs.Sites.{AreSites, end_of}
+use Rattle.base_reloc.specs.Sites.{AreSites}
 use Rattle.base_reloc.specs.Kept.{sites_in}
 use Rattle.base_reloc.specs.Laws.{SitesAreEntries}
-use Rattle.map_faults.specs.Rules.{behind}
 use Rattle.virtual_map.specs.States.{Runtime, SameParts}
 use Rattle.map_transition.specs.Images.{HasSites}
 use Rattle.map_transition.specs.Laws.{StayTouched}
@@ -42,11 +41,11 @@ use Rattle.runtime_whole.specs.Boots.{IsPlaced, image_page, HasPages, ShareNone,
 use Rattle.runtime_whole.specs.Guards.{is_guarded, LeavesGuarded}
 use Rattle.runtime_whole.specs.Laws.{LoadsKeep}
 use Rattle.runtime_whole.proofs.ListLemmas.{set_keeps, still_there}
-use Rattle.runtime_whole.proofs.MarkLemmas.{stay_marked, is_marked, is_held, reserved_keeps, reserved_marks}
+use Rattle.runtime_whole.proofs.MarkLemmas.{Grows, grows_on, reserved_grows, stay_marked, is_marked, is_held, reserved_keeps, reserved_marks}
 use Rattle.runtime_whole.proofs.PageLemmas.{has_page, in_run, changed_base, changed_long, changed_inside, not_conventional, given_stay, given_free, Fits, given_fits}
 use Rattle.runtime_whole.proofs.PoolLemmas.{Took, took}
 use Rattle.runtime_whole.proofs.SiteLemmas.{AreBytes, placed_small, moved_small, words_fit, sites_few, values_long}
-use Rattle.runtime_whole.proofs.LoadParts.{Lies, HasLoaded, has_loaded}
+use Rattle.runtime_whole.proofs.LoadParts.{HasLoaded, has_loaded}
 use Rattle.runtime_whole.proofs.BootLemmas.{guarded, spread, writes as writes_whole}
 
 -- ---- memory
@@ -78,20 +77,8 @@ new_same m (Some span) = record { base = refl; count = refl; touched = refl }
 same_stay : (a b : Pages) → SameMarks a b → StayTouched a b
 same_stay a b h page e = subst (λ (marks : List Bool). or_false (slice_get marks page) ≡ true) (sym h.touched) e
 
--- from one memory to another pages stay touched
-record Grows (a b : Pages) : Type 0 where
-  base : b.base ≡ a.base
-  count : b.pages ≡ a.pages
-  stay : StayTouched a b
-
-grows_on : (a b c : Pages) → Grows a b → Grows b c → Grows a c
-grows_on a b c h k = record { base = k.base ∙ h.base; count = k.count ∙ h.count; stay = λ page e. k.stay page (h.stay page e) }
-
 same_grows : (a b : Pages) → SameMarks a b → Grows a b
 same_grows a b h = record { base = h.base; count = h.count; stay = same_stay a b h }
-
-reserved_grows : (m : Pages) (page count : ℕ) → Grows m (reserved m page count)
-reserved_grows m page count = record { base = refl; count = refl; stay = reserved_keeps m page count }
 
 module _ (m : Pages) (place : Place) (image : Fields) (bytes block : List ℕ) where
   touched : Pages

@@ -1,9 +1,8 @@
 -- What a load that succeeds has found, placed and written.
-use Rattle.std.proofs.Common.{◌≡◌, ℕ, ◌<◌, Bool, true, false, List, [], ◌∷◌, ◌++◌, length, refl, sym, ap, subst, ◌∙◌, arith}
-use Rattle.std.specs.Prelude.{nat_lt, Option, Some, None, Result, Ok, Err, if◌then◌else◌}
+use Rattle.std.proofs.Common.{◌≡◌, ℕ, ◌<◌, Bool, true, false, List, [], ◌∷◌, ◌++◌, length, refl, ap, subst, arith}
+use Rattle.std.specs.Prelude.{nat_lt, Option, None, Result, Ok, Err, if◌then◌else◌}
 use Rattle.std.proofs.lemmas.Bool.Decides.{nat_tests}
 use Rattle.uh_base.specs.Answers.{◌>>=◌}
-use Rattle.guest_memory.specs.Pages.{Pages}
 use Rattle.page_alloc.specs.declared.layout.Layout.{Layout}
 use Rattle.page_alloc.specs.declared.page.PageRefusal.{PageRefusal}
 use Rattle.page_alloc.specs.Pages.{PageList}
@@ -19,10 +18,9 @@ use Rattle.pe_image.specs.ImageOf.{Fields, image_of}
 use Rattle.base_reloc.specs.declared.fault.RelocFault.{RelocFault}
 use Rattle.base_reloc.specs.declared.site.Site.{Site}
 use Rattle.base_reloc.specs.Kept.{sites_in}
-use Rattle.image_services.specs.declared.refusal.LoadRefusal.{LoadRefusal}
 use Rattle.image_services.specs.declared.refusal.LoadRefusal.TheVariants as refusals
 use Rattle.image_services.specs.Blocks.{loaded_image_protocol, block_size, block_type, code_type, block_bytes}
-use Rattle.image_services.specs.Images.{Loaded, most_images}
+use Rattle.image_services.specs.Images.{most_images}
 use Rattle.image_services.specs.Stores.{Store}
 use Rattle.image_services.specs.Placing.{placed, page_count, displacement, moved}
 use Rattle.image_services.specs.Loads.{read_image, read_sites, FileImage, read_file, kind_for, base_by, base_for, with_image_pages, Place, placed_by, block_behind, place_for, loaded_memory, loaded_image, lacks_frames, Load, with_loaded, stored_by, stored, loaded_file, load_counting}

@@ -86,3 +86,23 @@ stored_parts shown m at (byte ∷ bytes) =
 -- a page apart from those that are cleared stays touched
 pub cleared_keeps : (m : Pages) (page count k : ℕ) → (k < page) ⊎ (page + count ≤ k) → is_touched m k ≡ true → is_touched (cleared m page count) k ≡ true
 cleared_keeps m page count k apart h = ap or_false (outside m.touched page count k false true (there m.touched k h) apart)
+
+-- ---- memories that grow
+
+-- from one memory to another pages stay touched
+pub record Grows (a b : Pages) : Type 0 where
+  pub base : b.base ≡ a.base
+  pub count : b.pages ≡ a.pages
+  pub stay : StayTouched a b
+
+pub grows_on : (a b c : Pages) → Grows a b → Grows b c → Grows a c
+grows_on a b c h k = record { base = k.base ∙ h.base; count = k.count ∙ h.count; stay = λ page e. k.stay page (h.stay page e) }
+
+pub reserved_grows : (m : Pages) (page count : ℕ) → Grows m (reserved m page count)
+reserved_grows m page count = record { base = refl; count = refl; stay = reserved_keeps m page count }
+
+pub itself : (m : Pages) → Grows m m
+itself m = record { base = refl; count = refl; stay = λ page e. e }
+
+pub stored_grows : (shown : ℕ → Option ℕ) (m : Pages) (at : ℕ) (bytes : List ℕ) → Grows m (stored shown m at bytes)
+stored_grows shown m at bytes = record { base = (stored_parts shown m at bytes).0; count = (stored_parts shown m at bytes).1; stay = stored_keeps shown m at bytes }

@@ -1,12 +1,11 @@
 -- The sites of a loaded image, and their words.
-use Rattle.std.proofs.Common.{◌≡◌, ℕ, zero, suc, ◌+◌, ◌*◌, ◌-◌, ◌/◌, ◌%◌, ◌^◌, ◌≤◌, ◌<◌, Bool, true, false, List, [], ◌∷◌, ◌++◌, length, take, drop, refl, sym, ap, subst, ◌∙◌, arith, length-append, length-take, length-drop}
-use Rattle.std.specs.Prelude.{nat_le, nat_lt, ◌==◌, ◌&&◌, slice_index, find, Option, Some, None, Result, Ok, Err, if◌then◌else◌}
+use Rattle.std.proofs.Common.{◌≡◌, ℕ, zero, suc, ◌+◌, ◌*◌, ◌-◌, ◌/◌, ◌%◌, ◌^◌, ◌≤◌, ◌<◌, Bool, true, false, List, [], ◌∷◌, ◌++◌, length, drop, refl, ap, subst, arith, length-append, length-take, length-drop}
+use Rattle.std.specs.Prelude.{nat_le, nat_lt, ◌==◌, ◌&&◌, slice_index, find, Option, Some, None, Ok, if◌then◌else◌}
 use Rattle.std.specs.Int.{byte_at, bytes_low_first, to_le_bytes, w64}
 use Rattle.std.proofs.lemmas.Bool.Decides.{nat_tests}
-use Rattle.std.proofs.lemmas.List.{length-map}
 use Rattle.pe_image.specs.declared.image.Section.{Section}
 use Rattle.pe_image.specs.ImageOf.{Fields}
-use Rattle.pe_image.specs.Numbers.{u16_at, u32_at, u64_at}
+use Rattle.pe_image.specs.Numbers.{u32_at, u64_at}
 use Rattle.pe_image.specs.Placed.{copies_to, byte_in, placed_byte}
 use Rattle.base_reloc.specs.declared.site.Site.{Site}
 use Rattle.base_reloc.specs.declared.site.SiteKind.{SiteKind}
@@ -20,7 +19,6 @@ use Rattle.base_reloc.specs.Laws.{site_before, moved_entries, SitesAreEntries}
 use Rattle.base_reloc.specs.Moved as moves
 use Rattle.base_reloc.specs.Moved.{moved_at, byte_of, moved_byte, word_at, first_leaving}
 use Rattle.map_faults.specs.Grounds.{WordsFit}
-use Rattle.image_services.specs.declared.refusal.LoadRefusal.{LoadRefusal}
 use Rattle.image_services.specs.Placing.{values_from, placed, moved, moved_by, words_of}
 
 -- ---- bytes

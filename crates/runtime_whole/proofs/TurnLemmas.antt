@@ -3,13 +3,13 @@ use Rattle.std.proofs.Common.{◌≡◌, ℕ, Bool, true, false, List, refl, ap,
 use Rattle.std.specs.Prelude.{Option, if◌then◌else◌}
 use Rattle.rv_step.specs.declared.ends.StepEnd.{StepEnd}
 use Rattle.rv_step.specs.declared.ends.StepEnd.TheVariants as ends
-use Rattle.guest_memory.specs.Pages.{Pages, is_touched}
+use Rattle.guest_memory.specs.Pages.{Pages}
 use Rattle.address_view.specs.Stored.{stored}
 use Rattle.virtual_map.specs.States.{Runtime, SameParts}
 use Rattle.virtual_map.specs.Instructions.{Carried, carried, CarriesOut}
 use Rattle.runtime_turn.specs.declared.call.RtEnd.{RtEnd}
 use Rattle.runtime_turn.specs.declared.call.RtEnd.TheVariants as turns
-use Rattle.runtime_turn.specs.Turns.{Turned, returns_seen, slot_seen, by_carried, by_slot, turn_of, TurnEnds}
+use Rattle.runtime_turn.specs.Turns.{Turned, returns_seen, slot_seen, by_slot, turn_of, TurnEnds}
 use Rattle.map_transition.specs.Laws.{StayTouched, WholeStays, InstructionsKeepTouched}
 use Rattle.runtime_whole.specs.Laws.{InstructionsKeep, StoresKeep, TurnsStayWhole, StoresStayWhole}
 use Rattle.runtime_whole.proofs.MarkLemmas.{stored_keeps, stored_parts}
