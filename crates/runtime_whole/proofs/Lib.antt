@@ -12,3 +12,4 @@ pub mod KeepLemmas
 pub mod DiscardLemmas
 pub mod ServiceLemmas
 pub mod WriteLemmas
+pub mod StartLemmas

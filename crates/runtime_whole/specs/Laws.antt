@@ -23,7 +23,7 @@ use Rattle.memory_services.specs.PoolServices.{allocate_pool, free_pool}
 use Rattle.protocol_db.specs.Calls.{Installation}
 use Rattle.image_services.specs.declared.refusal.LoadRefusal.{LoadRefusal}
 use Rattle.image_services.specs.declared.refusal.UnloadRefusal.{UnloadRefusal}
-use Rattle.image_services.specs.Images.{Loaded}
+use Rattle.image_services.specs.Images.{Loaded, with_started}
 use Rattle.image_services.specs.Stores.{Store}
 use Rattle.image_services.specs.Loads.{load_counting}
 use Rattle.image_services.specs.Unloads.{discarded, unloaded}
@@ -39,6 +39,10 @@ OpeningIsWhole = (m : Pages) (rights : Rights) (r : Runtime) (made : ℕ) → Is
 -- Handles may be made.
 abbrev pub HandlesKeep : Type 0
 HandlesKeep = (r : Runtime) (images : List Loaded) (made later : ℕ) → BootWhole r images made → made ≤ later → BootWhole r images later
+
+-- Images may be started.
+abbrev pub StartsKeep : Type 0
+StartsKeep = (r : Runtime) (images : List Loaded) (made handle : ℕ) → BootWhole r images made → BootWhole r (with_started images handle) made
 
 -- What leaves guarded pages as they are keeps the state so.
 abbrev pub GuardedSuffice : Type 0

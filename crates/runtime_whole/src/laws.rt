@@ -1,7 +1,7 @@
 //! What the definitions come to. Each law is the contract of a function that does nothing.
 #![tactic(auto)]
 
-ghost use Rattle.runtime_whole.specs.Laws.{OpeningIsWhole, HandlesKeep, GuardedSuffice, WritesKeep, StoresKeep, InstructionsKeep, LoadsKeep, DiscardsKeep, UnloadsKeep, PagesKeep, PoolKeeps, MemoryWritesKeep, EndIsWhole, StoresStayWhole, TurnsStayWhole};
+ghost use Rattle.runtime_whole.specs.Laws.{OpeningIsWhole, HandlesKeep, StartsKeep, GuardedSuffice, WritesKeep, StoresKeep, InstructionsKeep, LoadsKeep, DiscardsKeep, UnloadsKeep, PagesKeep, PoolKeeps, MemoryWritesKeep, EndIsWhole, StoresStayWhole, TurnsStayWhole};
 
 use base_reloc::{read_sites_are_sound, sites_are_entries};
 use image_services::images_stay_in_order;
@@ -51,6 +51,13 @@ pub fn loads_keep()
     read_images_are_sound();
     read_sites_are_sound();
     sites_are_entries();
+    images_stay_in_order();
+}
+
+/// It stays so where an image is started.
+pub fn starts_keep()
+    ensures { StartsKeep }
+{
     images_stay_in_order();
 }
 

@@ -6,5 +6,6 @@ mod laws;
 
 pub use laws::{
     discards_keep, end_is_whole, guarded_suffice, handles_keep, instructions_keep, loads_keep,
-    memory_writes_keep, opening_is_whole, pages_keep, pool_keeps, turns_stay_whole, writes_keep,
+    memory_writes_keep, opening_is_whole, pages_keep, pool_keeps, starts_keep, turns_stay_whole,
+    writes_keep,
 };
