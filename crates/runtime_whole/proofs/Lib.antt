@@ -13,3 +13,6 @@ pub mod DiscardLemmas
 pub mod ServiceLemmas
 pub mod WriteLemmas
 pub mod StartLemmas
+pub mod RuntimeLemmas
+pub mod EventLemmas
+pub mod ImageLemmas

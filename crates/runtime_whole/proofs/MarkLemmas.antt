@@ -106,3 +106,11 @@ itself m = record { base = refl; count = refl; stay = λ page e. e }
 
 pub stored_grows : (shown : ℕ → Option ℕ) (m : Pages) (at : ℕ) (bytes : List ℕ) → Grows m (stored shown m at bytes)
 stored_grows shown m at bytes = record { base = (stored_parts shown m at bytes).0; count = (stored_parts shown m at bytes).1; stay = stored_keeps shown m at bytes }
+
+-- what a service comes to has a memory that grows
+pub record Leads {D : Type 0} (memory : D → Pages) (m : Pages) (done : D) : Type 0 where
+  pub grows : Grows m (memory done)
+
+pub one_of : {D : Type 0} (memory : D → Pages) (b : Bool) (m : Pages) (a c : D) → Leads memory m a → Leads memory m c → Leads memory m (if b then a else c)
+one_of memory true m a c h k = h
+one_of memory false m a c h k = k

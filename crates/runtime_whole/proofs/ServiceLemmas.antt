@@ -29,7 +29,7 @@ use Rattle.image_services.specs.Images.{Loaded}
 use Rattle.image_services.specs.Unloads.{block_cleared}
 use Rattle.runtime_whole.specs.Boots.{BootWhole}
 use Rattle.runtime_whole.specs.Guards.{LeavesGuarded}
-use Rattle.runtime_whole.specs.Laws.{PagesKeep, PoolKeeps}
+use Rattle.runtime_whole.specs.Services.{PagesKeep, PoolKeeps}
 use Rattle.runtime_whole.proofs.MarkLemmas.{stay_marked, stays_marked, Grows, stored_grows}
 use Rattle.runtime_whole.proofs.PageLemmas.{changed_base, changed_long, not_conventional, owners_differ, given_stay, given_free, given_fits, freed_stay, freed_apart, owned_fit, freed_owned}
 use Rattle.runtime_whole.proofs.PoolLemmas.{Took, took}

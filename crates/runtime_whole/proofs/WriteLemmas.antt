@@ -18,7 +18,7 @@ use Rattle.memory_services.specs.MapService.{outputs_of, are_outputs, sizes_writ
 use Rattle.memory_services.specs.declared.map.MapOutputs.{MapOutputs}
 use Rattle.image_services.specs.Images.{Loaded}
 use Rattle.runtime_whole.specs.Boots.{BootWhole}
-use Rattle.runtime_whole.specs.Laws.{MemoryWritesKeep}
+use Rattle.runtime_whole.specs.Services.{MemoryWritesKeep}
 use Rattle.runtime_whole.proofs.MarkLemmas.{Grows, grows_on, itself, stored_grows}
 use Rattle.runtime_whole.proofs.ServiceLemmas.{kept, grown}
 

@@ -15,11 +15,7 @@ use Rattle.runtime_turn.specs.declared.call.RtEnd.{RtEnd}
 use Rattle.runtime_turn.specs.Turns.{TurnEnds}
 use Rattle.map_transition.specs.Laws.{StayTouched}
 use Rattle.map_transition.specs.Wholes.{Whole}
-use Rattle.pool_alloc.specs.Pool.{BlockPage, IsPool, Together}
-use Rattle.memory_services.specs.Copies.{copy_mem, set_mem, calculate_crc32}
-use Rattle.memory_services.specs.MapService.{get_memory_map}
-use Rattle.memory_services.specs.PageServices.{allocate_pages, free_pages}
-use Rattle.memory_services.specs.PoolServices.{allocate_pool, free_pool}
+use Rattle.pool_alloc.specs.Pool.{IsPool, Together}
 use Rattle.protocol_db.specs.Calls.{Installation}
 use Rattle.image_services.specs.declared.refusal.LoadRefusal.{LoadRefusal}
 use Rattle.image_services.specs.declared.refusal.UnloadRefusal.{UnloadRefusal}
@@ -73,33 +69,6 @@ DiscardsKeep = (r : Runtime) (s : Store) (handle : ℕ) → StoreWhole r s → p
 abbrev pub UnloadsKeep : Type 0
 UnloadsKeep = (r : Runtime) (s after : Store) (handle : ℕ) (result : Result (Unit {0}) UnloadRefusal) → StoreWhole r s → pages.Whole s.pages → IsPool s.pool → Together s.pool s.pages
     → UnloadGives result (unloaded s handle) s after → StoreWhole r after
-
--- It stays so behind AllocatePages and FreePages, whatever the registers `x` of the call are and however it ends.
-pub record ArePagesKept (r : Runtime) (images : List Loaded) (made : ℕ) (x : List ℕ) : Type 0 where
-  pub allocated : (shown : ℕ → Option ℕ) → (let d = allocate_pages x shown r.memory r.pages in BootWhole (record r { memory = d.memory; pages = d.pages }) images made)
-  pub freed : let d = free_pages x r.memory r.pages in BootWhole (record r { memory = d.memory; pages = d.pages }) images made
-
-abbrev pub PagesKeep : Type 0
-PagesKeep = (r : Runtime) (images : List Loaded) (made : ℕ) (x : List ℕ) → BootWhole r images made → pages.Whole r.pages → ArePagesKept r images made x
-
--- So it does behind AllocatePool and FreePool.
-pub record IsPoolKept (r : Runtime) (images : List Loaded) (made : ℕ) (pool : List BlockPage) (x : List ℕ) : Type 0 where
-  pub allocated : (shown : ℕ → Option ℕ) → (let d = allocate_pool x shown r.memory r.pages pool in BootWhole (record r { memory = d.memory; pages = d.pages }) images made)
-  pub freed : let d = free_pool x r.memory r.pages pool in BootWhole (record r { memory = d.memory; pages = d.pages }) images made
-
-abbrev pub PoolKeeps : Type 0
-PoolKeeps = (r : Runtime) (images : List Loaded) (made : ℕ) (pool : List BlockPage) (x : List ℕ) → BootWhole r images made → pages.Whole r.pages → IsPool pool → Together pool r.pages
-    → IsPoolKept r images made pool x
-
--- So it does behind CopyMem, SetMem, CalculateCrc32 and GetMemoryMap.
-pub record AreWritesKept (r : Runtime) (images : List Loaded) (made : ℕ) (x : List ℕ) (shown : ℕ → Option ℕ) : Type 0 where
-  pub copied : BootWhole (record r { memory = (copy_mem x shown r.memory).memory }) images made
-  pub set : BootWhole (record r { memory = (set_mem x shown r.memory).memory }) images made
-  pub summed : BootWhole (record r { memory = (calculate_crc32 x shown r.memory).memory }) images made
-  pub mapped : BootWhole (record r { memory = (get_memory_map x shown r.memory r.pages).memory }) images made
-
-abbrev pub MemoryWritesKeep : Type 0
-MemoryWritesKeep = (r : Runtime) (images : List Loaded) (made : ℕ) (x : List ℕ) (shown : ℕ → Option ℕ) → BootWhole r images made → AreWritesKept r images made x shown
 
 -- The end of boot services makes a whole state.
 abbrev pub EndIsWhole : Type 0

@@ -1,7 +1,7 @@
 //! What the definitions come to. Each law is the contract of a function that does nothing.
 #![tactic(auto)]
 
-ghost use Rattle.runtime_whole.specs.Laws.{OpeningIsWhole, HandlesKeep, StartsKeep, GuardedSuffice, WritesKeep, StoresKeep, InstructionsKeep, LoadsKeep, DiscardsKeep, UnloadsKeep, PagesKeep, PoolKeeps, MemoryWritesKeep, EndIsWhole, StoresStayWhole, TurnsStayWhole};
+ghost use Rattle.runtime_whole.specs.Laws.{OpeningIsWhole, HandlesKeep, StartsKeep, GuardedSuffice, WritesKeep, StoresKeep, InstructionsKeep, LoadsKeep, DiscardsKeep, UnloadsKeep, EndIsWhole, StoresStayWhole, TurnsStayWhole};
 
 use base_reloc::{read_sites_are_sound, sites_are_entries};
 use image_services::images_stay_in_order;
@@ -71,26 +71,6 @@ pub fn discards_keep()
     pool_leaves_others();
     images_stay_in_order();
 }
-
-/// It stays so behind AllocatePages and FreePages, however they end.
-pub fn pages_keep()
-    ensures { PagesKeep }
-{
-    calls_leave_others();
-}
-
-/// It stays so behind AllocatePool and FreePool, however they end.
-pub fn pool_keeps()
-    ensures { PoolKeeps }
-{
-    calls_leave_others();
-    pool_leaves_others();
-}
-
-/// It stays so behind the services of memory that write alone.
-pub fn memory_writes_keep()
-    ensures { MemoryWritesKeep }
-{}
 
 /// Behind the end of boot services the state is whole, as the making of a virtual address map asks.
 pub fn end_is_whole()

@@ -3,9 +3,13 @@
 #![tactic(auto)]
 
 mod laws;
+mod services;
 
 pub use laws::{
     discards_keep, end_is_whole, guarded_suffice, handles_keep, instructions_keep, loads_keep,
-    memory_writes_keep, opening_is_whole, pages_keep, pool_keeps, starts_keep, turns_stay_whole,
-    writes_keep,
+    opening_is_whole, starts_keep, turns_stay_whole, writes_keep,
+};
+pub use services::{
+    console_keeps, event_services_keep, image_services_keep, memory_writes_keep, pages_keep,
+    pool_keeps, runtime_services_keep,
 };
