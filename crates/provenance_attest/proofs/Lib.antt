@@ -1,0 +1,5 @@
+pub mod Walks
+pub mod Formed
+pub mod RegionLemmas
+pub mod SiteLemmas
+pub mod Judging

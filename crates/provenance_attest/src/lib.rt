@@ -1,0 +1,12 @@
+//! Whether a driver and its certificate meet all rules in a machine's runtime state, with the first rule that fails.
+#![tactic(auto)]
+
+mod nodes;
+mod reaches;
+mod regions;
+mod rights;
+mod rules;
+mod sites;
+mod targets;
+
+pub use rules::check_rules;
