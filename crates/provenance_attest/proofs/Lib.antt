@@ -3,3 +3,4 @@ pub mod Formed
 pub mod RegionLemmas
 pub mod SiteLemmas
 pub mod Judging
+pub mod MarkLemmas

@@ -7,7 +7,7 @@ use Rattle.std.proofs.lemmas.List.{get_or_append_left, get_or_past, length-map}
 use Rattle.std.proofs.lemmas.Option.{slice_get-get_or}
 use Rattle.uh_base.specs.Bytes.{first_refused, next, number_at}
 use Rattle.page_alloc.specs.declared.layout.Layout.{Layout}
-use Rattle.page_alloc.specs.Layout.{IsLayout, layout_at, end_of}
+use Rattle.page_alloc.specs.Layout.{IsLayout, layout_at}
 use Rattle.memory_map.specs.declared.descriptor.Descriptor.{Descriptor}
 use Rattle.memory_map.specs.Map.{Covers, map_of}
 use Rattle.memory_map.specs.Map.{holds as holds_at}
@@ -21,22 +21,25 @@ use Rattle.map_faults.specs.Faults.{entry_at}
 use Rattle.virtual_map.specs.States.{Runtime}
 use Rattle.runtime_view.specs.Views.{view_before}
 use Rattle.map_transition.specs.Wholes.{HasView, IsImage, Whole}
+use Rattle.prov_types.specs.Kinds.{length_of}
 use Rattle.prov_cert.specs.declared.cert.OwnRegion.{OwnRegion}
 use Rattle.prov_cert.specs.declared.cert.CertSpan.{CertSpan}
 use Rattle.provenance_check.specs.Ground.{End}
 use Rattle.provenance_tables.specs.Regions.{address_of, bytes_in, fixed_starts, is_inside, lens_of, own_passes, region_passes, size_of, starts_of, with_own}
+use Rattle.provenance_attest.specs.Frames.{AreInRam, IsInRam}
 use Rattle.provenance_attest.proofs.Formed.{own_long}
+use Rattle.provenance_attest.proofs.MarkLemmas.{all_in_ram}
 
 -- ---- what is found
 
--- what is found is one of the list
-found_by : {X : Type 0} (P : X → Type 0) (b : Bool) (y x : X) (rest : Option X) → P y → (rest ≡ Some x → P x) → (if b then Some y else rest) ≡ Some x → P x
-found_by P true y x rest h k e = let same : y ≡ x = cc in subst P same h
-found_by P false y x rest h k e = k e
+found_by : {X : Type 0} (P : X → Type 0) (test : X → Bool) (b : Bool) (y x : X) (rest : Option X) → test y ≡ b → P y → (rest ≡ Some x → P x × (test x ≡ true)) → (if b then Some y else rest) ≡ Some x → P x × (test x ≡ true)
+found_by P test true y x rest t h k e = let same : y ≡ x = cc in (subst P same h, subst (λ z. test z ≡ true) same t)
+found_by P test false y x rest t h k e = k e
 
-pub all_find : {X : Type 0} (P : X → Type 0) (test : X → Bool) (xs : List X) (x : X) → All P xs → find test xs ≡ Some x → P x
+-- what is found is one of the list, and passes the test
+pub all_find : {X : Type 0} (P : X → Type 0) (test : X → Bool) (xs : List X) (x : X) → All P xs → find test xs ≡ Some x → P x × (test x ≡ true)
 all_find P test [] x h e = absurd cc
-all_find P test (y ∷ ys) x h e = found_by P (test y) y x (find test ys) (h 0 y (omega arith)) (λ f. all_find P test ys x (λ k d l. h (suc k) d (omega (arith, l))) f) e
+all_find P test (y ∷ ys) x h e = found_by P test (test y) y x (find test ys) refl (h 0 y (omega arith)) (λ f. all_find P test ys x (λ k d l. h (suc k) d (omega (arith, l))) f) e
 
 -- ---- the image
 
@@ -73,30 +76,40 @@ image_seen r image w m i =
 
 -- ---- where regions end
 
+-- a descriptor lies between two addresses
+record Lies (from to : ℕ) (d : Descriptor) : Type 0 where
+  low : from ≤ d.start
+  high : behind d.start d.pages ≤ to
+
 goes_up : (from to : ℕ) (ds : List Descriptor) → Covers from to ds → from ≤ to
 goes_up from to [] c = omega (arith, c)
 goes_up from to (d ∷ ds) c = let h = goes_up (from + 4096 * d.pages) to ds c.2 in omega (arith, h)
 
-all_end : (from to : ℕ) (ds : List Descriptor) → Covers from to ds → All (λ (d : Descriptor). behind d.start d.pages ≤ to) ds
-all_end from to [] c k x l = absurd (omega (arith, l))
-all_end from to (d ∷ ds) c zero x l = let h = goes_up (from + 4096 * d.pages) to ds c.2 in let s = c.0 in omega (arith, h, s)
-all_end from to (d ∷ ds) c (suc k) x l = all_end (from + 4096 * d.pages) to ds c.2 k x (omega (arith, l))
+all_lie : (from to : ℕ) (ds : List Descriptor) → Covers from to ds → All (Lies from to) ds
+all_lie from to [] c k x l = absurd (omega (arith, l))
+all_lie from to (d ∷ ds) c zero x l = let h = goes_up (from + 4096 * d.pages) to ds c.2 in let s = c.0 in record { low = omega (arith, s); high = omega (arith, h, s) }
+all_lie from to (d ∷ ds) c (suc k) x l = let h = all_lie (from + 4096 * d.pages) to ds c.2 k x (omega (arith, l)) in let a = h.low in record { low = omega (arith, a); high = h.high }
 
--- the descriptors of a state are in RAM, which ends at 2^47 or before
-ends_in_ram : (r : Runtime) → Whole r → r.gone ≡ true → MapIsMap → All (λ (d : Descriptor). behind d.start d.pages ≤ 2 ^ 47) r.descriptors
-ends_in_ram r w g law k d l =
+-- the descriptors of a state are in RAM
+descriptors_lie : (r : Runtime) → Whole r → r.gone ≡ true → MapIsMap → All (Lies r.layout.base (r.layout.base + 4096 * r.layout.pages)) r.descriptors
+descriptors_lie r w g law =
     let c : Covers r.pages.base (r.pages.base + 4096 * length r.pages.pages) (map_of r.pages) = (law r.pages).covers in
-    let list = w.descriptors g in
-    let base = w.ram.map_base in
-    let count = w.ram.map_count in
-    let end = w.ram.is_layout.ram.end in
-    let h : (get_or r.descriptors k d).start + 4096 * (get_or r.descriptors k d).pages ≤ r.pages.base + 4096 * length r.pages.pages =
-    all_end r.pages.base (r.pages.base + 4096 * length r.pages.pages) r.descriptors (subst (λ (ds : List Descriptor). Covers r.pages.base (r.pages.base + 4096 * length r.pages.pages) ds) (sym list) c) k d l in
-    omega (arith, h, base, count, end)
+    let from : Covers r.layout.base (r.layout.base + 4096 * length r.pages.pages) (map_of r.pages) = subst (λ (b : ℕ). Covers b (b + 4096 * length r.pages.pages) (map_of r.pages)) w.ram.map_base c in
+    let to : Covers r.layout.base (r.layout.base + 4096 * r.layout.pages) (map_of r.pages) = subst (λ (n : ℕ). Covers r.layout.base (r.layout.base + 4096 * n) (map_of r.pages)) w.ram.map_count from in
+    all_lie r.layout.base (r.layout.base + 4096 * r.layout.pages) r.descriptors (subst (λ (ds : List Descriptor). Covers r.layout.base (r.layout.base + 4096 * r.layout.pages) ds) (sym (w.descriptors g)) to)
 
-inside_low : (start len : ℕ) (found : Option Descriptor) → ((d : Descriptor) → found ≡ Some d → behind d.start d.pages ≤ 2 ^ 47) → is_inside start len found ≡ true → start + len ≤ 2 ^ 47
-inside_low start len None h e = absurd cc
-inside_low start len (Some d) h e = let l : start + len ≤ behind d.start d.pages = grind (arith, nat_tests) in let m = h d refl in omega (arith, l, m)
+inside_is : (base pages start len : ℕ) (found : Option Descriptor) → ((d : Descriptor) → found ≡ Some d → Lies base (base + 4096 * pages) d × (holds_at start d ≡ true)) → is_inside start len found ≡ true → IsInRam base pages start len
+inside_is base pages start len None h e = absurd cc
+inside_is base pages start len (Some d) h e =
+    let l : start + len ≤ behind d.start d.pages = grind (arith, nat_tests) in
+    let k = h d refl in
+    let m : d.start ≤ start = from_test k.1 in
+    let low = k.0.low in
+    let high = k.0.high in
+    record { low = omega (arith, m, low); high = omega (arith, l, high) }
+  where
+    from_test : holds_at start d ≡ true → d.start ≤ start
+    from_test q = grind (arith, nat_tests)
 
 both : (a b : Bool) → (a && b) ≡ true → (a ≡ true) × (b ≡ true)
 both true true e = (refl, refl)
@@ -104,10 +117,10 @@ both true false e = absurd cc
 both false b e = absurd cc
 
 -- an own region that passes its rule
-own_low : (r : Runtime) (starts lens : List ℕ) (own : List OwnRegion) (spans : List CertSpan) (k : ℕ) (o : OwnRegion) → All (λ (d : Descriptor). behind d.start d.pages ≤ 2 ^ 47) r.descriptors
-    → slice_get own k ≡ Some o → region_passes r starts lens own spans (suc (suc (suc (suc (suc (suc k)))))) ≡ true → slice_index starts (suc (suc (suc (suc (suc (suc k)))))) + o.len ≤ 2 ^ 47
+own_is : (r : Runtime) (starts lens : List ℕ) (own : List OwnRegion) (spans : List CertSpan) (k : ℕ) (o : OwnRegion) → All (Lies r.layout.base (r.layout.base + 4096 * r.layout.pages)) r.descriptors
+    → slice_get own k ≡ Some o → region_passes r starts lens own spans (suc (suc (suc (suc (suc (suc k)))))) ≡ true → IsInRam r.layout.base r.layout.pages (slice_index starts (suc (suc (suc (suc (suc (suc k))))))) o.len
 unfolding region_passes
-own_low r starts lens own spans k o low e h =
+own_is r starts lens own spans k o lie e h =
     let n = suc (suc (suc (suc (suc (suc k))))) in
     let z : n - 6 ≡ k = omega arith in
     let four : (n == 4) ≡ false = grind (arith, nat_tests) in
@@ -115,7 +128,9 @@ own_low r starts lens own spans k o low e h =
     let q : own_passes r starts lens spans n (Some o) ≡ true = rw (four, six, z, e) at h in
     let a = both _ _ q in
     let b = both _ _ a.1 in
-    inside_low (slice_index starts n) o.len (entry_at r.descriptors (slice_index starts n)) (λ d f. all_find (λ (x : Descriptor). behind x.start x.pages ≤ 2 ^ 47) (λ (x : Descriptor). is_runtime x && holds_at (slice_index starts n) x) r.descriptors d low f) b.0
+    inside_is r.layout.base r.layout.pages (slice_index starts n) o.len (entry_at r.descriptors (slice_index starts n)) (λ d f.
+    let found = all_find (Lies r.layout.base (r.layout.base + 4096 * r.layout.pages)) (λ (x : Descriptor). is_runtime x && holds_at (slice_index starts n) x) r.descriptors d lie f in
+    (found.0, (both _ _ found.1).1)) b.0
 
 own_len : (own : List OwnRegion) (k : ℕ) (o : OwnRegion) → slice_get own k ≡ Some o → slice_index (map (λ (x : OwnRegion). x.len) own) k ≡ o.len
 own_len [] k o e = absurd cc
@@ -131,62 +146,68 @@ kept_first bytes starts (o ∷ os) n l =
     let long : length (starts ++ at ∷ []) ≡ length starts + 1 = length-append starts (at ∷ []) in
     kept_first bytes (starts ++ at ∷ []) os n (omega (arith, l, long)) ∙ get_or_append_left starts (at ∷ []) 0 n l
 
-record FixedEnd (layout : Layout) : Type 0 where
-  slots : layout.slots + 4096 ≤ 2 ^ 47
-  system : layout.system + 4096 ≤ 2 ^ 47
-  os_return : layout.os_return + 4096 ≤ 2 ^ 47
-  os_args : layout.os_args + 65536 ≤ 2 ^ 47
-  os_stack : layout.os_stack + 65536 ≤ 2 ^ 47
+-- those that are fixed
+record FixedInRam (layout : Layout) : Type 0 where
+  slots : IsInRam layout.base layout.pages layout.slots 4096
+  system : IsInRam layout.base layout.pages layout.system 4096
+  os_return : IsInRam layout.base layout.pages layout.os_return 4096
+  os_args : IsInRam layout.base layout.pages layout.os_args 65536
+  os_stack : IsInRam layout.base layout.pages layout.os_stack 65536
 
-fixed_end : (layout : Layout) → IsLayout layout → FixedEnd layout
+place_in_ram : (base pages at below len : ℕ) → 256 ≤ pages → at ≡ base + 4096 * pages - below → len ≤ below → below ≤ 0x100000 → IsInRam base pages at len
+place_in_ram base pages at below len room e l m = record { low = omega (arith, room, e, m); high = omega (arith, room, e, l, m) }
+
+fixed_in_ram : (layout : Layout) → IsLayout layout → FixedInRam layout
 unfolding layout_at
-fixed_end layout h =
-    let end = h.ram.end in
-    let room = h.ram.room in
-    let a : layout.slots ≡ end_of layout.base layout.pages - 0x1000 = ap (λ (l : Layout). l.slots) h.places in
-    let b : layout.system ≡ end_of layout.base layout.pages - 0x2000 = ap (λ (l : Layout). l.system) h.places in
-    let c : layout.os_return ≡ end_of layout.base layout.pages - 0x24000 = ap (λ (l : Layout). l.os_return) h.places in
-    let d : layout.os_args ≡ end_of layout.base layout.pages - 0x34000 = ap (λ (l : Layout). l.os_args) h.places in
-    let e : layout.os_stack ≡ end_of layout.base layout.pages - 0x44000 = ap (λ (l : Layout). l.os_stack) h.places in
-    record {
-      slots = omega (arith, end, room, a);
-      system = omega (arith, end, room, b);
-      os_return = omega (arith, end, room, c);
-      os_args = omega (arith, end, room, d);
-      os_stack = omega (arith, end, room, e);
-    }
+fixed_in_ram layout h = record {
+  slots = place_in_ram layout.base layout.pages layout.slots 0x1000 4096 h.ram.room (ap (λ (l : Layout). l.slots) h.places) (omega arith) (omega arith);
+  system = place_in_ram layout.base layout.pages layout.system 0x2000 4096 h.ram.room (ap (λ (l : Layout). l.system) h.places) (omega arith) (omega arith);
+  os_return = place_in_ram layout.base layout.pages layout.os_return 0x24000 4096 h.ram.room (ap (λ (l : Layout). l.os_return) h.places) (omega arith) (omega arith);
+  os_args = place_in_ram layout.base layout.pages layout.os_args 0x34000 65536 h.ram.room (ap (λ (l : Layout). l.os_args) h.places) (omega arith) (omega arith);
+  os_stack = place_in_ram layout.base layout.pages layout.os_stack 0x44000 65536 h.ram.room (ap (λ (l : Layout). l.os_stack) h.places) (omega arith) (omega arith);
+}
 
 module _ (r : Runtime) (image : Kept) (own : List OwnRegion) (spans : List CertSpan) (w : Whole r) (gone : r.gone ≡ true) (law : MapIsMap) (is : IsImage r image)
     (passes : (n : ℕ) → n < length (starts_of r image own) → region_passes r (starts_of r image own) (lens_of image own) own spans n ≡ true) where
-  begin : (n : ℕ) → n < 6 → slice_index (starts_of r image own) n ≡ slice_index (fixed_starts r.layout image) n
-  begin n l = kept_first (bytes_in r) (fixed_starts r.layout image) own n l
+  starts_long : length (starts_of r image own) ≡ 6 + length own
+  starts_long = own_long (bytes_in r) (fixed_starts r.layout image) own
 
-  low_own : (k : ℕ) (b : Bool) → nat_lt k (length own) ≡ b → slice_index (starts_of r image own) (suc (suc (suc (suc (suc (suc k)))))) + slice_index (map (λ (x : OwnRegion). x.len) own) k < 2 ^ 64
-  low_own k true e =
-      let l : k < length own = grind (arith, nat_tests) in
+  fixed_at : (n at len : ℕ) → n < 6 → slice_index (fixed_starts r.layout image) n ≡ at → IsInRam r.layout.base r.layout.pages at len → IsInRam r.layout.base r.layout.pages (slice_index (starts_of r image own) n) len
+  fixed_at n at len l e h = subst (λ x. IsInRam r.layout.base r.layout.pages x len) (sym (kept_first (bytes_in r) (fixed_starts r.layout image) own n l ∙ e)) h
+
+  -- each region is in RAM
+  pub region_in_ram : (n : ℕ) → n < length (starts_of r image own) → IsInRam r.layout.base r.layout.pages (slice_index (starts_of r image own) n) (slice_index (lens_of image own) n)
+  region_in_ram zero b =
+      let top = slots_low r.layout w.ram.is_layout in
+      let low = is.low in
+      let high = is.high in
+      fixed_at 0 image.base (size_of image) (omega arith) refl (record { low = low; high = omega (arith, top, high) })
+  region_in_ram (suc zero) b = fixed_at 1 r.layout.os_stack 65536 (omega arith) refl (fixed_in_ram r.layout w.ram.is_layout).os_stack
+  region_in_ram (suc (suc zero)) b = fixed_at 2 r.layout.os_args 65536 (omega arith) refl (fixed_in_ram r.layout w.ram.is_layout).os_args
+  region_in_ram (suc (suc (suc zero))) b = fixed_at 3 r.layout.os_return 4096 (omega arith) refl (fixed_in_ram r.layout w.ram.is_layout).os_return
+  region_in_ram (suc (suc (suc (suc zero)))) b = fixed_at 4 r.layout.system 4096 (omega arith) refl (fixed_in_ram r.layout w.ram.is_layout).system
+  region_in_ram (suc (suc (suc (suc (suc zero))))) b = fixed_at 5 r.layout.slots 4096 (omega arith) refl (fixed_in_ram r.layout w.ram.is_layout).slots
+  region_in_ram (suc (suc (suc (suc (suc (suc k)))))) b =
+      let l : k < length own = omega (arith, b, starts_long) in
       let f : slice_get own k ≡ Some (get_or own k (record { cell_region = 0; cell_at = 0; len = 0 })) = slice_get-get_or own k (record { cell_region = 0; cell_at = 0; len = 0 }) l in
-      let long = own_long (bytes_in r) (fixed_starts r.layout image) own in
-      let h = own_low r (starts_of r image own) (lens_of image own) own spans k _ (ends_in_ram r w gone law) f (passes (suc (suc (suc (suc (suc (suc k)))))) (omega (arith, l, long))) in
-      let m = own_len own k _ f in
-      omega (arith, h, m)
-  low_own k false e =
-      let l : length own ≤ k = grind (arith, nat_tests) in
-      let long = own_long (bytes_in r) (fixed_starts r.layout image) own in
-      let a : slice_index (starts_of r image own) (suc (suc (suc (suc (suc (suc k)))))) ≡ 0 = get_or_past (starts_of r image own) (suc (suc (suc (suc (suc (suc k)))))) 0 (omega (arith, l, long)) in
-      let many : length (map (λ (x : OwnRegion). x.len) own) ≡ length own = simp (length-map) refl in
-      let b : slice_index (map (λ (x : OwnRegion). x.len) own) k ≡ 0 = get_or_past (map (λ (x : OwnRegion). x.len) own) k 0 (omega (arith, l, many)) in
+      subst (λ x. IsInRam r.layout.base r.layout.pages (slice_index (starts_of r image own) (suc (suc (suc (suc (suc (suc k))))))) x) (sym (own_len own k _ f))
+      (own_is r (starts_of r image own) (lens_of image own) own spans k _ (descriptors_lie r w gone law) f (passes (suc (suc (suc (suc (suc (suc k)))))) b))
+
+  end_by : (n : ℕ) (b : Bool) → nat_lt n (length (starts_of r image own)) ≡ b → slice_index (starts_of r image own) n + length_of (lens_of image own) n < 2 ^ 64
+  end_by n true e =
+      let l : n < length (starts_of r image own) = grind (arith, nat_tests) in
+      let h = (region_in_ram n l).high in
+      let end = w.ram.is_layout.ram.end in
+      omega (arith, h, end)
+  end_by n false e =
+      let l : length (starts_of r image own) ≤ n = grind (arith, nat_tests) in
+      let long : length (lens_of image own) ≡ 6 + length own = simp (length-map) (omega arith) in
+      let a : slice_index (starts_of r image own) n ≡ 0 = get_or_past (starts_of r image own) n 0 l in
+      let b : slice_index (lens_of image own) n ≡ 0 = get_or_past (lens_of image own) n 0 (omega (arith, l, starts_long, long)) in
       omega (arith, a, b)
 
   pub regions_end : End (starts_of r image own) (lens_of image own)
-  regions_end zero =
-      let a = begin 0 (omega arith) in
-      let f = fixed_end r.layout w.ram.is_layout in
-      let s = f.slots in
-      let high = is.high in
-      omega (arith, a, s, high)
-  regions_end (suc zero) = let a = begin 1 (omega arith) in let s = (fixed_end r.layout w.ram.is_layout).os_stack in omega (arith, a, s)
-  regions_end (suc (suc zero)) = let a = begin 2 (omega arith) in let s = (fixed_end r.layout w.ram.is_layout).os_args in omega (arith, a, s)
-  regions_end (suc (suc (suc zero))) = let a = begin 3 (omega arith) in let s = (fixed_end r.layout w.ram.is_layout).os_return in omega (arith, a, s)
-  regions_end (suc (suc (suc (suc zero)))) = let a = begin 4 (omega arith) in let s = (fixed_end r.layout w.ram.is_layout).system in omega (arith, a, s)
-  regions_end (suc (suc (suc (suc (suc zero))))) = let a = begin 5 (omega arith) in let s = (fixed_end r.layout w.ram.is_layout).slots in omega (arith, a, s)
-  regions_end (suc (suc (suc (suc (suc (suc k)))))) = low_own k (nat_lt k (length own)) refl
+  regions_end n = end_by n (nat_lt n (length (starts_of r image own))) refl
+
+  pub regions_in_ram : AreInRam r.layout.base r.layout.pages (starts_of r image own) (lens_of image own)
+  regions_in_ram = all_in_ram r.layout.base r.layout.pages (starts_of r image own) (lens_of image own) region_in_ram

@@ -1,3 +1,5 @@
 pub mod Sites
 pub mod Grounds
 pub mod Rules
+pub mod Frames
+pub mod Attested

@@ -1,6 +1,8 @@
 //! Whether a driver and its certificate meet all rules in a machine's runtime state, with the first rule that fails.
 #![tactic(auto)]
 
+mod checking;
+mod frames;
 mod nodes;
 mod reaches;
 mod regions;
@@ -9,4 +11,5 @@ mod rules;
 mod sites;
 mod targets;
 
+pub use checking::{Verdict, attest, reserve_regions};
 pub use rules::check_rules;
