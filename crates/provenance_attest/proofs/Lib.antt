@@ -4,3 +4,4 @@ pub mod RegionLemmas
 pub mod SiteLemmas
 pub mod Judging
 pub mod MarkLemmas
+pub mod PassLemmas

@@ -8,7 +8,7 @@ use Rattle.prov_cert.specs.declared.cert.CertSpan.{CertSpan}
 use Rattle.prov_layout.specs.Offsets.{every}
 use Rattle.provenance_check.specs.declared.rule.Rule.{Rule}
 use Rattle.provenance_attest.specs.Sites.{site_spans, site_targets}
-use Rattle.provenance_attest.specs.Rules.{first_among}
+use Rattle.provenance_attest.specs.Rules.{first_among, or_behind}
 
 -- a range of addresses that doesn't wrap passes a test where each of its numbers does
 pub same_range : (test : ℕ → Bool) (at n : ℕ) → at + n < 2 ^ 64 → all_pass test at n ≡ every test at 1 n
@@ -52,6 +52,21 @@ found_first rule n m x l before e =
 
 pub none_at_all : (rule : ℕ → Option Rule) (n : ℕ) → ((k : ℕ) → k < n → rule k ≡ None) → first_among rule 0 n ≡ None
 none_at_all rule n before = none_found rule 0 n (λ k b. let y : 0 + k ≡ k = omega arith in ap rule y ∙ before k b)
+
+-- none fails at each where none is found
+behind_none : (rule : ℕ → Option Rule) (i n : ℕ) (o : Option Rule) (k : ℕ) → rule i ≡ o → or_behind o i (first_among rule (i + 1) n) ≡ None → k < suc n
+    → ((j : ℕ) → first_among rule (i + 1) n ≡ None → j < n → rule ((i + 1) + j) ≡ None) → rule (i + k) ≡ None
+behind_none rule i n (Some x) k f e l rest = absurd cc
+behind_none rule i n None zero f e l rest = let z : i + 0 ≡ i = omega arith in ap rule z ∙ f
+behind_none rule i n None (suc k) f e l rest = let z : i + suc k ≡ (i + 1) + k = omega arith in ap rule z ∙ rest k e (omega (arith, l))
+
+at_each : (rule : ℕ → Option Rule) (i n k : ℕ) → first_among rule i n ≡ None → k < n → rule (i + k) ≡ None
+unfolding first_among
+at_each rule i zero k e l = absurd (omega (arith, l))
+at_each rule i (suc n) k e l = behind_none rule i n (rule i) k refl e l (λ j f m. at_each rule (i + 1) n j f m)
+
+pub none_at : (rule : ℕ → Option Rule) (n k : ℕ) → first_among rule 0 n ≡ None → k < n → rule k ≡ None
+none_at rule n k e l = let z : k ≡ 0 + k = omega arith in ap rule z ∙ at_each rule 0 n k e l
 
 -- where no word is left no site is
 pub no_span_left : (bytes : ℕ → ℕ) (base size : ℕ) (sites : List Site) (rest : List ℕ) (before total : List CertSpan) → length rest ≡ 0 → before ++ site_spans bytes base size sites rest ≡ total → before ≡ total

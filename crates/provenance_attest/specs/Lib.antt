@@ -3,3 +3,4 @@ pub mod Grounds
 pub mod Rules
 pub mod Frames
 pub mod Attested
+pub mod Laws

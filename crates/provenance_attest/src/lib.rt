@@ -3,6 +3,7 @@
 
 mod checking;
 mod frames;
+mod laws;
 mod nodes;
 mod reaches;
 mod regions;
@@ -12,4 +13,5 @@ mod sites;
 mod targets;
 
 pub use checking::{Verdict, attest, reserve_regions};
+pub use laws::none_fails_all_pass;
 pub use rules::check_rules;
