@@ -5,3 +5,4 @@ pub mod SiteLemmas
 pub mod Judging
 pub mod MarkLemmas
 pub mod PassLemmas
+pub mod TouchedLemmas

@@ -1,7 +1,7 @@
 //! Laws.
 #![tactic(auto)]
 
-ghost use Rattle.provenance_attest.specs.Laws.{NoneFailsAllPass};
+ghost use Rattle.provenance_attest.specs.Laws.{NoneFailsAllPass, TouchedHaveBytes};
 
 use memory_map::map_is_map;
 use prov_layout::laid_is_ordered;
@@ -16,3 +16,8 @@ pub fn none_fails_all_pass()
     laid_is_ordered();
     map_is_map();
 }
+
+/// A law: with the pages of regions touched, a page is touched exactly where it was or has a byte of a region.
+pub fn touched_have_bytes()
+    ensures { TouchedHaveBytes }
+{}

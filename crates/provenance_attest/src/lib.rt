@@ -13,5 +13,5 @@ mod sites;
 mod targets;
 
 pub use checking::{Verdict, attest, reserve_regions};
-pub use laws::none_fails_all_pass;
+pub use laws::{none_fails_all_pass, touched_have_bytes};
 pub use rules::check_rules;
