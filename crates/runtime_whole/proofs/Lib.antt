@@ -16,3 +16,5 @@ pub mod StartLemmas
 pub mod RuntimeLemmas
 pub mod EventLemmas
 pub mod ImageLemmas
+pub mod MadeLemmas
+pub mod ProtocolLemmas

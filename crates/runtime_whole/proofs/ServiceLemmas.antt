@@ -141,7 +141,7 @@ span_given list t size None span e = by (allocation list 0 t (pages_for size) 0)
         subst (λ (s : PageSpan). allocation list 0 t s.count 0 ≡ Ok s.start) is d
     by (Err refusal) d h = let bad : ⊥ = cc in absurd bad
 
-span_taken : (pool : List BlockPage) (list : PageList) (t size : ℕ) (span : PageSpan) → pages_allocated pool list t size ≡ Some span → allocation list 0 t span.count 0 ≡ Ok span.start
+pub span_taken : (pool : List BlockPage) (list : PageList) (t size : ℕ) (span : PageSpan) → pages_allocated pool list t size ≡ Some span → allocation list 0 t span.count 0 ≡ Ok span.start
 unfolding pages_allocated
 span_taken pool list t size span e = by (may_be_given t) e
   where

@@ -25,6 +25,7 @@ use Rattle.event_services.specs.Changes.{close_event}
 use Rattle.event_services.specs.Waits.{wait_for_event, wait_anew, wait_for_signal}
 use Rattle.console_services.specs.Modes.{query_mode}
 use Rattle.runtime_services.specs.Serving.{serve_runtime}
+use Rattle.protocol_services.specs.Services.{serve_protocol}
 use Rattle.runtime_whole.specs.Boots.{BootWhole, StoreWhole}
 
 -- ---- memory
@@ -98,3 +99,10 @@ pub record AreImagesKept (r : Runtime) (s : Store) (x : List ℕ) (shown : ℕ �
 abbrev pub ImageServicesKeep : Type 0
 ImageServicesKeep = (r : Runtime) (s : Store) (x : List ℕ) (shown : ℕ → Option ℕ) → StoreWhole r s → pages.Whole s.pages → memory.Whole s.memory → ((at : ℕ) → bytes_of s.memory at < 256)
     → IsPool s.pool → Together s.pool s.pages → AreImagesKept r s x shown
+
+-- ---- handles and protocols
+
+-- So it does behind each service on handles and protocols: no fewer handles were made.
+abbrev pub ProtocolServicesKeep : Type 0
+ProtocolServicesKeep = (r : Runtime) (images : List Loaded) (slot : ℕ) (x : List ℕ) (shown : ℕ → Option ℕ) (pool : List BlockPage) (p : Protocols) → BootWhole r images p.handles.made → pages.Whole r.pages
+    → (let d = serve_protocol slot x shown r.memory r.pages pool p in BootWhole (record r { memory = d.memory; pages = d.pages }) images d.protocols.handles.made)

@@ -11,5 +11,5 @@ pub use laws::{
 };
 pub use services::{
     console_keeps, event_services_keep, image_services_keep, memory_writes_keep, pages_keep,
-    pool_keeps, runtime_services_keep,
+    pool_keeps, protocol_services_keep, runtime_services_keep,
 };

@@ -1,9 +1,9 @@
 //! Services leave the state as it has to be. Each law is the contract of a function that does nothing.
 #![tactic(auto)]
 
-ghost use Rattle.runtime_whole.specs.Services.{PagesKeep, PoolKeeps, MemoryWritesKeep, RuntimeServicesKeep, RuntimeServicesStayWhole, EventServicesKeep, ConsoleKeeps, ImageServicesKeep};
+ghost use Rattle.runtime_whole.specs.Services.{PagesKeep, PoolKeeps, MemoryWritesKeep, RuntimeServicesKeep, RuntimeServicesStayWhole, EventServicesKeep, ConsoleKeeps, ImageServicesKeep, ProtocolServicesKeep};
 
-use crate::laws::{discards_keep, loads_keep};
+use crate::laws::{discards_keep, handles_keep, loads_keep};
 use map_transition::whole_stays;
 use page_alloc::calls_leave_others;
 use pool_alloc::pool_leaves_others;
@@ -52,4 +52,12 @@ pub fn image_services_keep()
 {
     loads_keep();
     discards_keep();
+}
+
+/// It stays so behind each service on handles and protocols, however it ends.
+pub fn protocol_services_keep()
+    ensures { ProtocolServicesKeep }
+{
+    calls_leave_others();
+    handles_keep();
 }
