@@ -1,5 +1,5 @@
 -- Calls of the protocol database make handles, and never fewer.
-use Rattle.std.proofs.Common.{◌≡◌, ℕ, ◌+◌, ◌≤◌, Bool, true, false, List, [], ◌∷◌, ◌++◌, refl, ap, subst, sym, arith}
+use Rattle.std.proofs.Common.{◌≡◌, ℕ, ◌+◌, ◌≤◌, Bool, true, false, List, [], ◌∷◌, ◌++◌, refl, arith}
 use Rattle.std.specs.Prelude.{Option, Some, None, Result, Ok, Err, if◌then◌else◌}
 use Rattle.std.specs.List.{fold, list_any}
 use Rattle.std.specs.Option.{is_some}
@@ -14,7 +14,7 @@ use Rattle.protocol_db.specs.declared.refusal.ProtocolRefusal.TheVariants as ref
 use Rattle.protocol_db.specs.declared.request.OpenRequest.{OpenRequest}
 use Rattle.protocol_db.specs.Registrations.{Protocols, first_taken}
 use Rattle.protocol_db.specs.Opening.{entry_of, opening, is_held}
-use Rattle.protocol_db.specs.Calls.{Done, Installation, announced, installed, installation, InstallationOfAll, all_announced, all_installed, installation_of_all, withdrawn, uninstalled, uninstallation, reinstalled, reinstallation, opened, protocol_opening, has_between, may_close, closing, discarded, all_discarded, first_refusal, all_uninstalled, uninstallation_of_all}
+use Rattle.protocol_db.specs.Calls.{Done, announced, installed, installation, all_installed, installation_of_all, withdrawn, uninstalled, uninstallation, reinstalled, reinstallation, opened, protocol_opening, has_between, may_close, closing, discarded, all_discarded, first_refusal, all_uninstalled, uninstallation_of_all}
 
 -- ---- the handle database
 

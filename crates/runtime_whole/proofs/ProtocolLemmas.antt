@@ -1,5 +1,5 @@
 -- Services on handles and protocols.
-use Rattle.std.proofs.Common.{◌≡◌, ℕ, ◌+◌, ◌*◌, ◌≤◌, Bool, true, false, List, [], ◌∷◌, length, refl, sym, ◌∙◌, arith}
+use Rattle.std.proofs.Common.{◌≡◌, ℕ, ◌*◌, Bool, true, false, List, [], ◌∷◌, length, refl, sym, ◌∙◌, arith}
 use Rattle.std.specs.Prelude.{◌==◌, ◌&&◌, nat_lt, Option, Some, None, Result, Ok, Err, if◌then◌else◌}
 use Rattle.uh_base.specs.Limits.{frame_limit}
 use Rattle.uh_base.specs.LittleEndian.{low_bytes}
@@ -7,8 +7,7 @@ use Rattle.uh_base.specs.Statuses.{success, invalid_parameter, not_found, buffer
 use Rattle.uh_base.specs.declared.guid.Guid.{Guid}
 use Rattle.service_answer.specs.Answers.{Answer, gives, announces, lacks_frames}
 use Rattle.guest_memory.specs.Lists.{count_true}
-use Rattle.guest_memory.specs.Pages.{Pages, page_of}
-use Rattle.guest_memory.specs.Changes.{cleared}
+use Rattle.guest_memory.specs.Pages.{Pages}
 use Rattle.page_alloc.specs.Pages.{PageList}
 use Rattle.page_alloc.specs.Pages as pages
 use Rattle.page_alloc.specs.Laws.{CallsLeaveOthers}
@@ -29,7 +28,6 @@ use Rattle.protocol_db.specs.declared.refusal.ProtocolRefusal.{ProtocolRefusal}
 use Rattle.protocol_db.specs.declared.request.OpenRequest.{OpenRequest}
 use Rattle.protocol_db.specs.Registrations.{Protocols, first_taken}
 use Rattle.protocol_db.specs.Calls.{Done, Installation, installation, InstallationOfAll, installation_of_all, uninstallation, uninstallation_of_all, reinstallation, protocol_opening, closing, information}
-use Rattle.virtual_map.specs.States.{Runtime}
 use Rattle.protocol_services.specs.declared.outputs.ListOutputs.{ListOutputs}
 use Rattle.protocol_services.specs.declared.service.ProtocolService.{ProtocolService}
 use Rattle.protocol_services.specs.declared.service.ProtocolService.TheVariants as services
@@ -44,9 +42,7 @@ use Rattle.protocol_services.specs.Searching.{handles_found, found_taken, words,
 use Rattle.protocol_services.specs.Blocks.{BlockDone, block_refused, block_type, as_ram, with_contents, outputs_written, if_frames, block_given, none_given, list_given, block_address}
 use Rattle.protocol_services.specs.Blocks as blocks
 use Rattle.protocol_services.specs.Lists.{entries_bytes, information_given, open_protocol_information, guid_list, guids_given, protocols_per_handle, found_given, locate_handle_buffer, buffer_taken}
-use Rattle.protocol_services.specs.Services.{service_of, ServiceDone, on_pages, with_protocols, with_taken, served, serve_protocol}
-use Rattle.image_services.specs.Images.{Loaded}
-use Rattle.runtime_whole.specs.Boots.{BootWhole}
+use Rattle.protocol_services.specs.Services.{service_of, ServiceDone, on_pages, with_protocols, served, serve_protocol}
 use Rattle.runtime_whole.specs.Laws.{HandlesKeep}
 use Rattle.runtime_whole.specs.Services.{ProtocolServicesKeep}
 use Rattle.runtime_whole.proofs.MarkLemmas.{Grows, grows_on, itself, stored_grows, Leads, one_of}
