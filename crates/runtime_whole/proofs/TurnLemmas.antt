@@ -11,7 +11,7 @@ use Rattle.runtime_turn.specs.declared.call.RtEnd.{RtEnd}
 use Rattle.runtime_turn.specs.declared.call.RtEnd.TheVariants as turns
 use Rattle.runtime_turn.specs.Turns.{Turned, returns_seen, slot_seen, by_slot, turn_of, TurnEnds}
 use Rattle.map_transition.specs.Laws.{StayTouched, WholeStays, InstructionsKeepTouched}
-use Rattle.runtime_whole.specs.Laws.{InstructionsKeep, StoresKeep, TurnsStayWhole, StoresStayWhole}
+use Rattle.runtime_whole.specs.Laws.{InstructionsKeep, InstructionsStayWhole, StoresKeep, TurnsStayWhole, StoresStayWhole}
 use Rattle.runtime_whole.proofs.MarkLemmas.{stored_keeps, stored_parts}
 use Rattle.runtime_whole.proofs.BootLemmas.{writes}
 
@@ -42,6 +42,9 @@ carried_out law ends.Memory x pc r x2 pc2 r2 h = h.1.memory.kept
 
 pub instructions_keep : InstructionsKeepTouched → InstructionsKeep
 instructions_keep law end x pc r x2 pc2 r2 images made b same h = writes r r2 images made b same (carried_out law end x pc r x2 pc2 r2 h)
+
+pub instructions_whole : WholeStays → InstructionsKeepTouched → InstructionsStayWhole
+instructions_whole stays law end x pc r x2 pc2 r2 w same h = stays r r2 w same (carried_out law end x pc r x2 pc2 r2 h)
 
 -- ---- turns at run time
 

@@ -74,9 +74,12 @@ UnloadsKeep = (r : Runtime) (s after : Store) (handle : ℕ) (result : Result (U
 abbrev pub EndIsWhole : Type 0
 EndIsWhole = (r : Runtime) (images : List Loaded) (made : ℕ) (s : EventList) → BootWhole r images made → memory.Whole r.memory → events.Whole s → Whole (boot_ended r images s)
 
--- It stays whole where bytes are stored, and where a turn at run time ends, however.
+-- It stays whole where bytes are stored, and where an instruction or a turn at run time ends, however.
 abbrev pub StoresStayWhole : Type 0
 StoresStayWhole = (r : Runtime) (shown : ℕ → Option ℕ) (at : ℕ) (bytes : List ℕ) → Whole r → Whole (record r { memory = stored shown r.memory at bytes })
+
+abbrev pub InstructionsStayWhole : Type 0
+InstructionsStayWhole = (end : StepEnd) (x : List ℕ) (pc : ℕ) (r : Runtime) (x2 : List ℕ) (pc2 : ℕ) (r2 : Runtime) → Whole r → SameParts r r2 → CarriesOut end x pc r x2 pc2 r2 → Whole r2
 
 abbrev pub TurnsStayWhole : Type 0
 TurnsStayWhole = (end : RtEnd) (x : List ℕ) (pc : ℕ) (r : Runtime) (x2 : List ℕ) (pc2 : ℕ) (r2 : Runtime) → Whole r → SameParts r r2 → TurnEnds end x pc r x2 pc2 r2 → Whole r2

@@ -1,7 +1,7 @@
 //! What the definitions come to. Each law is the contract of a function that does nothing.
 #![tactic(auto)]
 
-ghost use Rattle.runtime_whole.specs.Laws.{OpeningIsWhole, HandlesKeep, StartsKeep, GuardedSuffice, WritesKeep, StoresKeep, InstructionsKeep, LoadsKeep, DiscardsKeep, UnloadsKeep, EndIsWhole, StoresStayWhole, TurnsStayWhole};
+ghost use Rattle.runtime_whole.specs.Laws.{OpeningIsWhole, HandlesKeep, StartsKeep, GuardedSuffice, WritesKeep, StoresKeep, InstructionsKeep, LoadsKeep, DiscardsKeep, UnloadsKeep, EndIsWhole, StoresStayWhole, InstructionsStayWhole, TurnsStayWhole};
 
 use base_reloc::{read_sites_are_sound, sites_are_entries};
 use image_services::images_stay_in_order;
@@ -79,9 +79,11 @@ pub fn end_is_whole()
     places_are_firmwares();
 }
 
-/// It stays whole where bytes are stored, through any view, and behind each turn at run time, however it ends.
+/// It stays whole where bytes are stored, through any view, and behind each instruction and each turn at run time, however it
+/// ends.
 pub fn turns_stay_whole()
     ensures stores { StoresStayWhole }
+    ensures instructions { InstructionsStayWhole }
     ensures turns { TurnsStayWhole }
 {
     touched_stay();
