@@ -10,7 +10,7 @@ use page_alloc::{calls_leave_others, opening_covers_ram, others_stay};
 use pe_image::read_images_are_sound;
 use pool_alloc::pool_leaves_others;
 
-/// At opening, with no image, the state is as it has to be while boot services last.
+/// At opening, with no image, `BootWhole` holds.
 pub fn opening_is_whole()
     ensures { OpeningIsWhole }
 {
@@ -18,24 +18,24 @@ pub fn opening_is_whole()
     places_are_firmwares();
 }
 
-/// It stays so where handles are made.
+/// `BootWhole` stays where handles are made.
 pub fn handles_keep()
     ensures { HandlesKeep }
 {
     images_stay_in_order();
 }
 
-/// It stays so where guarded pages, those of the firmware and of images, are left as they are.
+/// `BootWhole` stays where guarded pages, those of the firmware and of images, are left as they are.
 pub fn guarded_suffice()
     ensures { GuardedSuffice }
 {}
 
-/// It stays so where bytes are written and pages touched, as by stores of code and by outputs of services.
+/// `BootWhole` stays where bytes are written and pages touched, as by stores of code and by outputs of services.
 pub fn writes_keep()
     ensures { WritesKeep }
 {}
 
-/// It stays so where bytes are stored, through any view, and behind each instruction, however it ends.
+/// `BootWhole` stays where bytes are stored, through any view, and behind each instruction, however it ends.
 pub fn instructions_keep()
     ensures stores { StoresKeep }
     ensures instructions { InstructionsKeep }
@@ -43,7 +43,7 @@ pub fn instructions_keep()
     touched_stay();
 }
 
-/// It stays so where an image file is loaded or refused, and where the host lacks memory for it.
+/// `BootWhole` stays where an image file is loaded or refused, and where the host lacks memory for it.
 pub fn loads_keep()
     ensures { LoadsKeep }
 {
@@ -54,14 +54,14 @@ pub fn loads_keep()
     images_stay_in_order();
 }
 
-/// It stays so where an image is started.
+/// `BootWhole` stays where an image is started.
 pub fn starts_keep()
     ensures { StartsKeep }
 {
     images_stay_in_order();
 }
 
-/// It stays so where an image goes, with its protocol, its block and its pages, and where it isn't known or was started.
+/// `BootWhole` stays where an image goes, with its protocol, its block and its pages, and where it isn't known or was started.
 pub fn discards_keep()
     ensures discards { DiscardsKeep }
     ensures unloads { UnloadsKeep }
@@ -72,14 +72,14 @@ pub fn discards_keep()
     images_stay_in_order();
 }
 
-/// Behind the end of boot services the state is whole, as the making of a virtual address map asks.
+/// Where `BootWhole` holds, the state behind the end of boot services is `Whole`, as the making of a virtual address map asks.
 pub fn end_is_whole()
     ensures { EndIsWhole }
 {
     places_are_firmwares();
 }
 
-/// It stays whole where bytes are stored, through any view, and behind each instruction and each turn at run time, however it
+/// `Whole` stays where bytes are stored, through any view, and behind each instruction and each turn at run time, however it
 /// ends.
 pub fn turns_stay_whole()
     ensures stores { StoresStayWhole }

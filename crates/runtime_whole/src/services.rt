@@ -1,4 +1,4 @@
-//! Services leave the state as it has to be. Each law is the contract of a function that does nothing.
+//! What services leave so. Each law is the contract of a function that does nothing.
 #![tactic(auto)]
 
 ghost use Rattle.runtime_whole.specs.Services.{PagesKeep, PoolKeeps, MemoryWritesKeep, RuntimeServicesKeep, RuntimeServicesStayWhole, EventServicesKeep, ConsoleKeeps, ImageServicesKeep, ProtocolServicesKeep};
@@ -8,14 +8,14 @@ use map_transition::whole_stays;
 use page_alloc::calls_leave_others;
 use pool_alloc::pool_leaves_others;
 
-/// It stays so behind AllocatePages and FreePages, however they end.
+/// `BootWhole` stays behind AllocatePages and FreePages, however they end.
 pub fn pages_keep()
     ensures { PagesKeep }
 {
     calls_leave_others();
 }
 
-/// It stays so behind AllocatePool and FreePool, however they end.
+/// `BootWhole` stays behind AllocatePool and FreePool, however they end.
 pub fn pool_keeps()
     ensures { PoolKeeps }
 {
@@ -23,12 +23,12 @@ pub fn pool_keeps()
     pool_leaves_others();
 }
 
-/// It stays so behind the services of memory that write alone.
+/// `BootWhole` stays behind the services of memory that write alone.
 pub fn memory_writes_keep()
     ensures { MemoryWritesKeep }
 {}
 
-/// It stays so behind each runtime service, and a whole state stays whole once boot services are over.
+/// `BootWhole` stays behind each runtime service, and so does `Whole` once boot services are over.
 pub fn runtime_services_keep()
     ensures before { RuntimeServicesKeep }
     ensures behind { RuntimeServicesStayWhole }
@@ -36,17 +36,17 @@ pub fn runtime_services_keep()
     whole_stays();
 }
 
-/// It stays so behind the services on events that write or change protocols, however they end.
+/// `BootWhole` stays behind the services on events that write or change protocols, however they end.
 pub fn event_services_keep()
     ensures { EventServicesKeep }
 {}
 
-/// It stays so behind QueryMode of the console.
+/// `BootWhole` stays behind QueryMode of the console.
 pub fn console_keeps()
     ensures { ConsoleKeeps }
 {}
 
-/// It stays so behind LoadImage, UnloadImage and the outputs of StartImage, however they end.
+/// `BootWhole` stays behind LoadImage, UnloadImage and the outputs of StartImage, however they end.
 pub fn image_services_keep()
     ensures { ImageServicesKeep }
 {
@@ -54,7 +54,7 @@ pub fn image_services_keep()
     discards_keep();
 }
 
-/// It stays so behind each service on handles and protocols, however it ends.
+/// `BootWhole` stays behind each service on handles and protocols, however it ends.
 pub fn protocol_services_keep()
     ensures { ProtocolServicesKeep }
 {
