@@ -1,0 +1,7 @@
+//! Two runs of a machine, one whose memory is mapped where it was loaded, and one behind an accepted virtual address map:
+//! the premises of the laws of two runs, from the state, the map and the certificate's check.
+#![tactic(auto)]
+
+mod places;
+
+pub use places::ranges_are_seen;
