@@ -1,4 +1,9 @@
-pub mod Members
-pub mod Entries
-pub mod Grounds
-pub mod Seen
+pub mod MemberLemmas
+pub mod EntryLemmas
+pub mod GroundLemmas
+pub mod SeenLemmas
+pub mod RegionLemmas
+pub mod ShownLemmas
+pub mod LaidLemmas
+pub mod FormedLemmas
+pub mod RunLemmas

@@ -1,1 +1,4 @@
 pub mod Places
+pub mod Checked
+pub mod Shown
+pub mod Runs

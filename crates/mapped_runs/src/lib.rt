@@ -3,5 +3,7 @@
 #![tactic(auto)]
 
 mod places;
+mod regions;
 
 pub use places::ranges_are_seen;
+pub use regions::{pointers_convert, regions_are_shown, regions_move};

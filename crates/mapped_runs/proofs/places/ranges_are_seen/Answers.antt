@@ -1,4 +1,4 @@
-use Rattle.mapped_runs.proofs.Seen.{offsets_move, pointers_move, ranges_are_seen}
+use Rattle.mapped_runs.proofs.SeenLemmas.{offsets_move, pointers_move, ranges_are_seen}
 use Rattle.mapped_runs.proofs.places.ranges_are_seen.Goals as goal
 
 pub returns-clause-seen : goal.returns-clause-seen

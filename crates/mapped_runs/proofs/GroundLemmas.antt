@@ -16,7 +16,7 @@ use Rattle.map_faults.specs.Faults.{call_fault, first_fault, or_next}
 use Rattle.virtual_map.specs.States.{Runtime}
 use Rattle.runtime_turn.specs.Functions.{ground_of}
 use Rattle.map_transition.specs.Wholes.{Whole, type_of}
-use Rattle.mapped_runs.proofs.Members.{holder_is, is_held, some_same}
+use Rattle.mapped_runs.proofs.MemberLemmas.{holder_is, is_held, some_same}
 
 -- ---- the places of a layout
 

@@ -1,10 +1,11 @@
 -- Descriptors of a list, by number.
-use Rattle.std.proofs.Common.{◌≡◌, ◌<◌, ◌≤◌, ◌+◌, ◌*◌, ◌%◌, ℕ, zero, suc, Bool, true, false, List, [], ◌∷◌, refl, sym, subst, arith, ◌⊎◌, inl, inr, ◌∙◌, ap}
+use Rattle.std.proofs.Common.{◌≡◌, ◌<◌, ◌≤◌, ◌+◌, ◌*◌, ◌%◌, ℕ, zero, suc, Bool, true, false, List, [], ◌∷◌, length, refl, sym, subst, arith, ◌⊎◌, inl, inr, ◌∙◌, ap}
 use Rattle.std.specs.Prelude.{◌&&◌, ◌||◌, ◌==◌, not, nat_lt, nat_le, slice_get, find, Option, Some, None, if◌then◌else◌}
-use Rattle.std.specs.List.{list_any}
+use Rattle.std.specs.List.{All, list_any}
+use Rattle.std.proofs.lemmas.Option.{get_or_from_slice_get}
 use Rattle.std.proofs.lemmas.Bool.Decides.{nat_tests}
 use Rattle.memory_map.specs.declared.descriptor.Descriptor.{Descriptor}
-use Rattle.memory_map.specs.Map.{Covers, holds}
+use Rattle.memory_map.specs.Map.{Covers, NeighboursDiffer, holds}
 use Rattle.map_faults.specs.Rules.{behind}
 
 pub some_same : (d e : Descriptor) → Some d ≡ Some e → d ≡ e
@@ -25,7 +26,15 @@ must_be false h = absurd cc
 pub eq_of : (a b : ℕ) → (a == b) ≡ true → a ≡ b
 eq_of a b h = grind (arith, nat_tests)
 
--- ---- tests of all
+-- ---- what is so of all
+
+below_end : {A : Type 0} (xs : List A) (i : ℕ) (x : A) → slice_get xs i ≡ Some x → i < length xs
+below_end [] i x h = absurd cc
+below_end (y ∷ ys) zero x h = omega arith
+below_end (y ∷ ys) (suc i) x h = let k = below_end ys i x h in omega (arith, k)
+
+pub all_at : {A : Type 0} (P : A → Type 0) (xs : List A) (i : ℕ) (x : A) → All P xs → slice_get xs i ≡ Some x → P x
+all_at P xs i x h s = subst P (get_or_from_slice_get xs i x x s) (h i x (below_end xs i x s))
 
 pub none_at : (p : Descriptor → Bool) (ds : List Descriptor) (i : ℕ) (d : Descriptor) → list_any p ds ≡ false → slice_get ds i ≡ Some d → p d ≡ false
 none_at p [] i d h s = absurd cc
@@ -48,17 +57,17 @@ some_any p (d ∷ ds) h = by (some_any p ds) (p d) refl h
     by rest false e k = let f = rest k in record { at = suc f.at; one = f.one; here = f.here; passes = f.passes }
 
 -- the first that passes a test is one
-pub record IsFound (p : Descriptor → Bool) (ds : List Descriptor) (d : Descriptor) : Type 0 where
+pub record IsFound {A : Type 0} (p : A → Bool) (xs : List A) (x : A) : Type 0 where
   pub at : ℕ
-  pub here : slice_get ds at ≡ Some d
-  pub passes : p d ≡ true
+  pub here : slice_get xs at ≡ Some x
+  pub passes : p x ≡ true
 
-pub found_at : (p : Descriptor → Bool) (ds : List Descriptor) (d : Descriptor) → find p ds ≡ Some d → IsFound p ds d
-found_at p [] d h = absurd cc
-found_at p (e ∷ es) d h = by (found_at p es d) (p e) refl h
+pub found_at : {A : Type 0} (p : A → Bool) (xs : List A) (x : A) → find p xs ≡ Some x → IsFound p xs x
+found_at p [] x h = absurd cc
+found_at {A} p (y ∷ ys) x h = by (found_at p ys x) (p y) refl h
   where
-    by : (find p es ≡ Some d → IsFound p es d) → (b : Bool) → p e ≡ b → (if b then Some e else find p es) ≡ Some d → IsFound p (e ∷ es) d
-    by rest true f k = record { at = 0; here = k; passes = subst (λ (x : Descriptor). p x ≡ true) (some_same e d k) f }
+    by : (find p ys ≡ Some x → IsFound p ys x) → (b : Bool) → p y ≡ b → (if b then Some y else find p ys) ≡ Some x → IsFound p (y ∷ ys) x
+    by rest true f k = let same : y ≡ x = cc in record { at = 0; here = k; passes = subst (λ (z : A). p z ≡ true) same f }
     by rest false f k = let l = rest k in record { at = suc l.at; here = l.here; passes = l.passes }
 
 pub missed : (p : Descriptor → Bool) (ds : List Descriptor) (i : ℕ) (d : Descriptor) → find p ds ≡ None → slice_get ds i ≡ Some d → p d ≡ true → ⊥
@@ -147,3 +156,47 @@ holder_is at from to (e ∷ es) zero d c s h =
 holder_is at from to (e ∷ es) (suc i) d c s h =
     let free : holds at e ≡ false = free_first at e d from c.0 (within (from + 4096 * e.pages) to es i d c.2 s).low h in
     rw free (holder_is at (from + 4096 * e.pages) to es i d c.2 s h)
+
+-- ---- pages of one type
+
+-- neighbours of one type are one descriptor
+pub record HoldsAll (ds : List Descriptor) (from to : ℕ) : Type 0 where
+  pub at : ℕ
+  pub one : Descriptor
+  pub here : slice_get ds at ≡ Some one
+  pub low : one.start ≤ from
+  pub high : to ≤ behind one.start one.pages
+
+-- all descriptors that hold an address between two have a memory type
+abbrev pub AreTyped : List Descriptor → (from to memory_type : ℕ) → Type 0
+AreTyped ds from to memory_type = (i : ℕ) (d : Descriptor) (x : ℕ) → slice_get ds i ≡ Some d → from ≤ x → x < to → d.start ≤ x → x < behind d.start d.pages → d.memory_type ≡ memory_type
+
+pub one_holds : (ds : List Descriptor) (first last from to memory_type : ℕ) → Covers first last ds → NeighboursDiffer ds → first ≤ from → from < to → to ≤ last → AreTyped ds from to memory_type → HoldsAll ds from to
+one_holds [] first last from to memory_type c n low some high t = absurd (omega (arith, c, low, some, high))
+one_holds (d ∷ ds) first last from to memory_type c n low some high t =
+    by (λ l. one_holds ds (first + 4096 * d.pages) last from to memory_type c.2 (rest_differ ds n) l some high (λ i e x s. t (suc i) e x s)) (nat_lt from (behind d.start d.pages)) refl (nat_le to (behind d.start d.pages)) refl
+  where
+    rest_differ : (es : List Descriptor) → NeighboursDiffer (d ∷ es) → NeighboursDiffer es
+    rest_differ es m = m.1
+
+    start : d.start ≡ first
+    start = c.0
+
+    over : (es : List Descriptor) → Covers (first + 4096 * d.pages) last es → NeighboursDiffer (d ∷ es) → AreTyped (d ∷ es) from to memory_type → from < behind d.start d.pages → behind d.start d.pages < to → ⊥
+    over [] k m u l h = let s = start in absurd (omega (arith, k, s, high, h))
+    over (e ∷ es) k m u l h =
+        let s = start in
+        let begins = k.0 in
+        let more = k.1 in
+        let one = u 0 d from refl (omega arith) some (omega (arith, s, low)) l in
+        let two = u 1 e (behind d.start d.pages) refl (omega (arith, l)) h (omega (arith, begins, s)) (omega (arith, begins, s, more)) in
+        absurd (m.0 (one ∙ sym two))
+
+    by : (first + 4096 * d.pages ≤ from → HoldsAll ds from to) → (a : Bool) → nat_lt from (behind d.start d.pages) ≡ a → (b : Bool) → nat_le to (behind d.start d.pages) ≡ b → HoldsAll (d ∷ ds) from to
+    by rest false e b f =
+        let s = start in
+        let l : behind d.start d.pages ≤ from = grind (arith, nat_tests) in
+        let h = rest (omega (arith, l, s)) in
+        record { at = suc h.at; one = h.one; here = h.here; low = h.low; high = h.high }
+    by rest true e true f = let s = start in record { at = 0; one = d; here = refl; low = omega (arith, s, low); high = grind (arith, nat_tests) }
+    by rest true e false f = absurd (over ds c.2 n t (grind (arith, nat_tests)) (grind (arith, nat_tests)))

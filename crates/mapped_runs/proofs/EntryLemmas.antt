@@ -10,8 +10,8 @@ use Rattle.map_faults.specs.Rules.{is_runtime, is_named_by, is_unaligned, is_out
 use Rattle.map_faults.specs.Faults.{or_next, call_fault, entries_fault, window_fault, unmapped_fault, reloc_fault, first_fault, entry_at, is_mapped, displacement_by}
 use Rattle.map_faults.specs.Laws.{EntriesArePlaced, RangesAreApart}
 use Rattle.runtime_view.specs.Views.{virtual_of}
-use Rattle.mapped_runs.proofs.Members.{Found, IsFound, IsWithin, OneOrApart, both_true, eq_of, found_at, held_high, held_low, is_held, missed, neither, none_at, on_page, one_or_apart, same_found, some_any, some_same, within}
-use Rattle.mapped_runs.proofs.Grounds.{both_none, places}
+use Rattle.mapped_runs.proofs.MemberLemmas.{Found, IsFound, IsWithin, OneOrApart, both_true, eq_of, found_at, held_high, held_low, is_held, missed, neither, none_at, on_page, one_or_apart, same_found, some_any, some_same, within}
+use Rattle.mapped_runs.proofs.GroundLemmas.{both_none, places}
 
 -- ---- each runtime descriptor is named
 

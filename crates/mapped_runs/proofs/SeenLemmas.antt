@@ -19,9 +19,9 @@ use Rattle.runtime_turn.specs.Functions.{ground_of}
 use Rattle.runtime_view.specs.Views.{os_window, ranges_between, runtime_windows, view_after, virtual_of}
 use Rattle.map_transition.specs.Wholes.{Whole}
 use Rattle.mapped_runs.specs.Places.{AreSeenAt, IsInDescriptor, IsInWindow, MovesAsOne, OffsetsMove, PointersMove, RangesAreSeen, moved_by, place_after}
-use Rattle.mapped_runs.proofs.Members.{none_at, on_page, some_same, within}
-use Rattle.mapped_runs.proofs.Grounds.{ground_is, is_first, map_covers, places, window_clear}
-use Rattle.mapped_runs.proofs.Entries.{HasEntry, entry_of, place_by, window_fits}
+use Rattle.mapped_runs.proofs.MemberLemmas.{none_at, on_page, some_same, within}
+use Rattle.mapped_runs.proofs.GroundLemmas.{ground_is, is_first, map_covers, places, window_clear}
+use Rattle.mapped_runs.proofs.EntryLemmas.{HasEntry, entry_of, place_by, window_fits}
 
 -- ---- the first window that shows an address
 
