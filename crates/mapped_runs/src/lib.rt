@@ -4,6 +4,8 @@
 
 mod places;
 mod regions;
+mod runs;
 
 pub use places::ranges_are_seen;
 pub use regions::{pointers_convert, regions_are_shown, regions_move};
+pub use runs::runs_are_of;
