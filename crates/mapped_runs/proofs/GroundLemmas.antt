@@ -15,7 +15,8 @@ use Rattle.map_faults.specs.Rules.{is_runtime, behind}
 use Rattle.map_faults.specs.Faults.{call_fault, first_fault, or_next}
 use Rattle.virtual_map.specs.States.{Runtime}
 use Rattle.runtime_turn.specs.Functions.{ground_of}
-use Rattle.map_transition.specs.Wholes.{Whole, type_of}
+use Rattle.runtime_view.specs.Views.{view_before}
+use Rattle.map_transition.specs.Wholes.{HasView, Whole, type_of}
 use Rattle.mapped_runs.proofs.MemberLemmas.{holder_is, is_held, some_same}
 
 -- ---- the places of a layout
@@ -86,6 +87,10 @@ is_first r call h =
     known : (b : Bool) → not b ≡ false → b ≡ true
     known true e = refl
     known false e = absurd cc
+
+-- before a map RAM is seen at its own addresses
+pub view_is : (r : Runtime) (call : Call) → Whole r → first_fault (ground_of r) call ≡ None → r.view ≡ view_before r.layout
+view_is r call w ok = subst (λ (b : Bool). HasView b r) (is_first r call ok).unmapped w.view
 
 -- ---- the memory map
 

@@ -7,3 +7,5 @@ pub mod ShownLemmas
 pub mod LaidLemmas
 pub mod FormedLemmas
 pub mod RunLemmas
+pub mod TurnLemmas
+pub mod MadeLemmas

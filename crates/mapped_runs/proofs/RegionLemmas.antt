@@ -122,6 +122,9 @@ inside_one r start len h = by (entry_at r.descriptors start) refl h
         let t = both_true (is_runtime d) (holds start d) f.passes in
         record { at = f.at; one = d; here = f.here; runtime = t.0; low = held_low start d t.1; high = grind (arith, nat_tests) }
 
+two_types : (o : Option ℕ) → o ≡ Some 5 → o ≡ Some 6 → ⊥
+two_types o a b = cc
+
 six_on : (n : ℕ) → 5 < n → (m : ℕ) × (n ≡ 6 + m)
 six_on n l = (n - 6, omega (arith, l))
 
@@ -337,8 +340,7 @@ module _ (is_map : MapIsMap) (each : PassesEach) (stands : NoneFailsStands) (see
         let d = p.system in let h = b.1 in
         let one : type_of (page_at r.pages at) ≡ Some 5 = is_image.types at a.0 a.1 in
         let two : type_of (page_at r.pages at) ≡ Some 6 = w.places.system at b.0 (omega (arith, d, h)) in
-        let bad : Some 5 ≡ Some 6 = sym one ∙ two in
-        absurd cc
+        two_types (type_of (page_at r.pages at)) one two
 
     off_slots : (at : ℕ) → Meets image.base (size_of image) at → Meets r.layout.slots 4096 at → ⊥
     off_slots at a b = let high = is_image.high in let h = a.1 in let l = b.0 in omega (arith, high, h, l)

@@ -14,8 +14,6 @@ use Rattle.address_view.specs.Seen.{all_pass, view_allows}
 use Rattle.address_view.specs.Laws.{AllPass}
 use Rattle.map_faults.specs.Grounds.{Call, Kept}
 use Rattle.virtual_map.specs.States.{Runtime}
-use Rattle.runtime_view.specs.Views.{view_before}
-use Rattle.map_transition.specs.Wholes.{HasView, Whole}
 use Rattle.prov_types.specs.Kinds.{AreApart, length_of}
 use Rattle.prov_cert.specs.declared.cert.CertSpan.{CertSpan}
 use Rattle.prov_cert.specs.declared.cert.Class.{Class as SpanClass}
@@ -36,7 +34,7 @@ use Rattle.mapped_runs.specs.Places.{RangesAreSeen, moved_by}
 use Rattle.mapped_runs.specs.Checked.{IsChecked, RegionsAreApart, RegionsAreDisjoint, starts_after, starts_before}
 use Rattle.mapped_runs.specs.Shown.{RightsStay, rights_after, rights_before}
 use Rattle.mapped_runs.specs.Runs.{IsGroundOf, RunIsOf, RunsAreOf, targets_in}
-use Rattle.mapped_runs.proofs.GroundLemmas.{is_first, places}
+use Rattle.mapped_runs.proofs.GroundLemmas.{places, view_is}
 use Rattle.mapped_runs.proofs.RegionLemmas.{after_at, after_none, before_at, before_none, is_image, passes, ram_of, region_moves, start_at}
 use Rattle.mapped_runs.proofs.LaidLemmas.{HasByte, IsGiven, IsOfSpan, OfClass, buffers, laid_listed, of_class, service, tables}
 use Rattle.mapped_runs.proofs.FormedLemmas.{nodes_formed}
@@ -59,9 +57,6 @@ module _ (is_map : MapIsMap) (each : PassesEach) (stands : NoneFailsStands) (see
 
     abbrev lens : List ℕ
     lens = lens_of image cert.regions
-
-    pub is_unmapped : r.view ≡ view_before r.layout
-    is_unmapped = let first = is_first r call checked.accepted in subst (λ (b : Bool). HasView b r) first.unmapped checked.whole.view
 
     -- ---- what is laid
 
@@ -166,7 +161,7 @@ module _ (is_map : MapIsMap) (each : PassesEach) (stands : NoneFailsStands) (see
     }
 
     rights_are : rights_in r ≡ rights_before r r.memory
-    rights_are = ap (λ (ws : List Window). view_allows (see ws) (rights_at r.memory)) is_unmapped
+    rights_are = ap (λ (ws : List Window). view_allows (see ws) (rights_at r.memory)) (view_is r call checked.whole checked.accepted)
 
     pub starts_are : (g : Ground) → IsGroundOf r image cert g → (n : ℕ) → 0 < length_of g.lens n → starts_before r image cert n ≡ slice_index g.starts n
     starts_are g is n some = before_at is_map each stands seen r call image cert checked n (subst (λ (ls : List ℕ). 0 < length_of ls n) is.lens some) ∙ ap (λ (xs : List ℕ). slice_index xs n) (sym is.starts)
