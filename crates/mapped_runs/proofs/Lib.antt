@@ -9,3 +9,6 @@ pub mod FormedLemmas
 pub mod RunLemmas
 pub mod TurnLemmas
 pub mod MadeLemmas
+pub mod ByteLemmas
+pub mod PageLemmas
+pub mod KeptLemmas
