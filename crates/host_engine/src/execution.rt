@@ -35,8 +35,7 @@ pub fn execution_reaches_its_end()
     ensures { ExecutionsEnd }
 {}
 
-/// Makes at most so many steps. It is a function of its own, so that the loop has the registers to itself.
-#[inline(never)]
+/// Makes at most so many steps.
 pub fn execute(
     known: &mut KnownWords,
     regs: &mut Regs,

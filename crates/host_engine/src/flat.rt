@@ -31,7 +31,9 @@ fn halts(cause: FlatCause) -> bool
     }
 }
 
-/// The execution of a file's bytes: whether it is halted, and its text.
+/// The execution of a file's bytes: whether it is halted, and its text. It is a function of its own, so that the loop in it
+/// has the processor's registers to itself.
+#[inline(never)]
 fn execute_file(alloc: Global, file: &[u8], bound: u64) -> Result<(bool, Vec<u8>), AllocError>
     requires { length file.now ≤ code_limit }
     ensures halted { IfOk result (λ ran. ran.0 ≡ halts (flat_end file.now bound).cause) }
