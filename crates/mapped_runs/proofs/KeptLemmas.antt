@@ -108,15 +108,15 @@ sites_still bytes m n image base pages still h = record {
 pub all_sites_still : (bytes : ℕ → ℕ) (m n : Pages) (kept : List Kept) → n.base ≡ m.base → n.pages ≡ m.pages → StayTouched m n → All (HasSites m) kept → AllPairs AreApart kept → AreKept n (all_marked bytes kept)
 all_sites_still bytes m n kept base pages still h apart = record {
   sites = λ k d l.
-  let below : k < length kept = (let long = length-map kept (marked bytes) in omega (arith, l, long)) in
-  subst (HasSites n) (sym (get_or-map (marked bytes) kept k d d below)) (sites_still bytes m n (get_or kept k d) base pages still (h k d below));
+      let below : k < length kept = (let long = length-map kept (marked bytes) in omega (arith, l, long)) in
+      subst (HasSites n) (sym (get_or-map (marked bytes) kept k d d below)) (sites_still bytes m n (get_or kept k d) base pages still (h k d below));
   apart = λ i j d less l.
-  let long = length-map kept (marked bytes) in
-  let two : j < length kept = omega (arith, l, long) in
-  let one : i < length kept = omega (arith, two, less) in
-  let a = apart i j d less two in
-  subst (λ (x : Kept). AreApart x (get_or (all_marked bytes kept) j d)) (sym (get_or-map (marked bytes) kept i d d one))
-  (subst (λ (y : Kept). AreApart (marked bytes (get_or kept i d)) y) (sym (get_or-map (marked bytes) kept j d d two)) (record { handles = a.handles; pages = a.pages }));
+      let long = length-map kept (marked bytes) in
+      let two : j < length kept = omega (arith, l, long) in
+      let one : i < length kept = omega (arith, two, less) in
+      let a = apart i j d less two in
+      subst (λ (x : Kept). AreApart x (get_or (all_marked bytes kept) j d)) (sym (get_or-map (marked bytes) kept i d d one))
+      (subst (λ (y : Kept). AreApart (marked bytes (get_or kept i d)) y) (sym (get_or-map (marked bytes) kept j d d two)) (record { handles = a.handles; pages = a.pages }));
 }
 
 pub marked_at : (bytes : ℕ → ℕ) (kept : List Kept) (i : ℕ) (image : Kept) → slice_get kept i ≡ Some image → slice_get (all_marked bytes kept) i ≡ Some (marked bytes image)
