@@ -1,13 +1,13 @@
 -- Bytes of memory behind the fix-ups.
-use Rattle.std.proofs.Common.{◌≡◌, ◌<◌, ◌≤◌, ◌+◌, ◌-◌, ◌*◌, ◌/◌, ◌%◌, ℕ, zero, suc, Bool, true, false, List, [], ◌∷◌, ◌++◌, length, take, drop, refl, sym, arith, ◌⊎◌, inl, inr, ◌∙◌, ap, length-append, length-take, length-drop}
-use Rattle.std.specs.Prelude.{◌^◌, ◌&&◌, min, nat_lt, nat_le, slice_index, if◌then◌else◌}
+use Rattle.std.proofs.Common.{◌≡◌, ◌<◌, ◌≤◌, ◌+◌, ◌-◌, ◌*◌, ◌/◌, ℕ, zero, suc, true, List, [], ◌∷◌, ◌++◌, length, take, drop, refl, sym, arith, ◌⊎◌, inl, inr, ◌∙◌, ap, length-append, length-take, length-drop}
+use Rattle.std.specs.Prelude.{◌^◌, min, nat_lt, nat_le, slice_index}
 use Rattle.std.proofs.lemmas.Bool.Decides.{nat_tests}
 use Rattle.std.proofs.lemmas.List.{get_or-append_right, get_or-drop, get_or-take, get_or_append_left}
 use Rattle.uh_base.specs.Bytes.{next, number_at}
 use Rattle.uh_base.specs.LittleEndian.{little_endian, low_bytes}
 use Rattle.memory_map.specs.declared.descriptor.Descriptor.{Descriptor}
 use Rattle.guest_memory.specs.Lists.{written_over}
-use Rattle.guest_memory.specs.Pages.{Pages, bytes_of, holds}
+use Rattle.guest_memory.specs.Pages.{Pages, bytes_of}
 use Rattle.guest_memory.specs.Runs.{bytes_from}
 use Rattle.guest_memory.specs.Changes.{put_part}
 use Rattle.map_faults.specs.Grounds.{Kept}

@@ -1,17 +1,16 @@
 -- The entry of a runtime descriptor in an accepted map, and where it puts the descriptor.
 use Rattle.std.proofs.Common.{◌≡◌, ◌<◌, ◌≤◌, ◌+◌, ◌-◌, ◌*◌, ◌%◌, ℕ, zero, suc, Bool, true, false, List, [], ◌∷◌, refl, sym, subst, arith, ◌⊎◌, inl, inr, ◌∙◌, ap}
-use Rattle.std.specs.Prelude.{◌^◌, ◌==◌, ◌&&◌, ◌||◌, not, nat_lt, nat_le, slice_get, Option, Some, None, if◌then◌else◌}
-use Rattle.std.proofs.lemmas.Bool.Decides.{nat_tests}
+use Rattle.std.specs.Prelude.{◌^◌, ◌==◌, ◌&&◌, ◌||◌, not, slice_get, Option, Some, None, if◌then◌else◌}
 use Rattle.memory_map.specs.declared.descriptor.Descriptor.{Descriptor}
-use Rattle.memory_map.specs.Map.{Covers, holds}
+use Rattle.memory_map.specs.Map.{holds}
 use Rattle.map_faults.specs.declared.fault.MapFault.{MapFault}
 use Rattle.map_faults.specs.Grounds.{Ground, Call, window_pages, IsGround}
-use Rattle.map_faults.specs.Rules.{is_runtime, is_named_by, is_unaligned, is_out, behind, meet, overlaps, shadows}
-use Rattle.map_faults.specs.Faults.{or_next, call_fault, entries_fault, window_fault, unmapped_fault, reloc_fault, first_fault, entry_at, is_mapped, displacement_by}
-use Rattle.map_faults.specs.Laws.{EntriesArePlaced, RangesAreApart}
+use Rattle.map_faults.specs.Rules.{is_runtime, is_named_by, is_unaligned, is_out, behind, overlaps, shadows}
+use Rattle.map_faults.specs.Faults.{or_next, call_fault, entries_fault, window_fault, unmapped_fault, reloc_fault, first_fault, entry_at, is_mapped}
+use Rattle.map_faults.specs.Laws.{EntriesArePlaced}
 use Rattle.runtime_view.specs.Views.{virtual_of}
-use Rattle.mapped_runs.proofs.MemberLemmas.{Found, IsFound, IsWithin, OneOrApart, both_true, eq_of, found_at, held_high, held_low, is_held, missed, neither, none_at, on_page, one_or_apart, same_found, some_any, some_same, within}
-use Rattle.mapped_runs.proofs.GroundLemmas.{both_none, places}
+use Rattle.mapped_runs.proofs.MemberLemmas.{IsFound, IsWithin, OneOrApart, both_true, eq_of, found_at, held_high, held_low, is_held, missed, neither, one_or_apart, same_found, some_any, some_same, within}
+use Rattle.mapped_runs.proofs.GroundLemmas.{both_none}
 
 -- ---- each runtime descriptor is named
 

@@ -1,15 +1,14 @@
 -- What follows where a state is whole.
-use Rattle.std.proofs.Common.{◌≡◌, ℕ, ◌+◌, ◌-◌, ◌*◌, ◌%◌, ◌≤◌, ◌<◌, Bool, true, false, List, length, refl, sym, ap, subst, ◌∙◌, arith, Some, None}
-use Rattle.std.specs.Prelude.{◌^◌, ◌&&◌, not, slice_get, Option, if◌then◌else◌}
+use Rattle.std.proofs.Common.{◌≡◌, ℕ, ◌+◌, ◌*◌, ◌%◌, ◌≤◌, ◌<◌, Bool, true, false, List, length, refl, sym, ap, subst, ◌∙◌, arith, Some, None}
+use Rattle.std.specs.Prelude.{◌^◌, not, slice_get, Option, if◌then◌else◌}
 use Rattle.page_alloc.specs.declared.layout.Layout.{Layout}
 use Rattle.page_alloc.specs.declared.page.Page.{Page}
 use Rattle.page_alloc.specs.Layout.{IsLayout, layout_at}
 use Rattle.page_alloc.specs.Pages.{page_at}
 use Rattle.memory_map.specs.declared.descriptor.Descriptor.{Descriptor}
-use Rattle.memory_map.specs.Map.{Covers, holds, descriptor_of, map_of, attribute_of, IsDescribed}
+use Rattle.memory_map.specs.Map.{Covers, descriptor_of, map_of, attribute_of, IsDescribed}
 use Rattle.memory_map.specs.Laws.{MapIsMap}
 use Rattle.map_faults.specs.declared.fault.MapFault.{MapFault}
-use Rattle.map_faults.specs.declared.fault.MapFault.TheVariants as faults
 use Rattle.map_faults.specs.Grounds.{Call, IsGround, window_pages}
 use Rattle.map_faults.specs.Rules.{is_runtime, behind}
 use Rattle.map_faults.specs.Faults.{call_fault, first_fault, or_next}

@@ -1,6 +1,6 @@
 -- The images that stay, with their marks.
-use Rattle.std.proofs.Common.{◌≡◌, ◌<◌, ◌≤◌, ◌+◌, ◌*◌, ℕ, zero, suc, Bool, true, false, List, [], ◌∷◌, length, map, get_or, refl, sym, subst, arith, ◌∙◌, ap}
-use Rattle.std.specs.Prelude.{◌==◌, ◌&&◌, nat_lt, nat_le, slice_get, find, Option, Some, None, if◌then◌else◌}
+use Rattle.std.proofs.Common.{◌≡◌, ◌<◌, ◌+◌, ℕ, zero, suc, Bool, true, false, List, [], ◌∷◌, length, get_or, refl, sym, subst, arith, ◌∙◌, ap}
+use Rattle.std.specs.Prelude.{◌==◌, ◌&&◌, slice_get, Some, if◌then◌else◌}
 use Rattle.std.specs.List.{All, AllPairs}
 use Rattle.std.proofs.lemmas.Bool.Decides.{nat_tests}
 use Rattle.std.proofs.lemmas.List.{get_or-map, length-map}
@@ -8,11 +8,10 @@ use Rattle.uh_base.specs.Bytes.{number_at}
 use Rattle.base_reloc.specs.declared.site.Site.{Site}
 use Rattle.base_reloc.specs.declared.site.SiteKind.{SiteKind}
 use Rattle.base_reloc.specs.declared.site.SiteKind.TheVariants.{Dir64, High20, Highlow}
-use Rattle.base_reloc.specs.Sites.{AreSites, covers, end_of, width_of}
+use Rattle.base_reloc.specs.Sites.{width_of}
 use Rattle.guest_memory.specs.Pages.{Pages, holds, is_touched, page_of, touched_at}
-use Rattle.map_faults.specs.Grounds.{IsKept, Kept, WordsFit}
-use Rattle.map_faults.specs.Rules.{behind}
-use Rattle.map_transition.specs.Images.{AreApart, AreTouched, HasSites}
+use Rattle.map_faults.specs.Grounds.{Kept, WordsFit}
+use Rattle.map_transition.specs.Images.{AreApart, HasSites}
 use Rattle.map_transition.specs.Fixes.{all_marked, fixed_at, fixed_byte, has_byte, marked, marks_of}
 use Rattle.map_transition.specs.Laws.{AreKept, StayTouched}
 use Rattle.provenance_tables.specs.Sites.{is_dir64, loaded_at}

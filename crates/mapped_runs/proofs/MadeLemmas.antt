@@ -1,21 +1,19 @@
 -- What is seen behind a transition.
-use Rattle.std.proofs.Common.{◌≡◌, ℕ, ◌<◌, ◌+◌, List, refl, sym, ap, ◌∙◌, subst}
-use Rattle.guest_memory.specs.declared.rights.Rights.{Rights}
+use Rattle.std.proofs.Common.{◌≡◌, ℕ, ◌+◌, List, refl, sym, ap, ◌∙◌}
 use Rattle.guest_memory.specs.Pages.{Pages, bytes_of, rights_at}
 use Rattle.address_view.specs.declared.view.Window.{Window}
 use Rattle.address_view.specs.Windows.{see, seen_bytes}
 use Rattle.address_view.specs.Seen.{view_allows}
-use Rattle.memory_map.specs.Laws.{MapIsMap}
 use Rattle.memory_map.specs.declared.descriptor.Descriptor.{Descriptor}
 use Rattle.page_alloc.specs.declared.layout.Layout.{Layout}
 use Rattle.map_faults.specs.Grounds.{Call, Kept}
-use Rattle.virtual_map.specs.States.{Runtime, SameParts}
-use Rattle.runtime_view.specs.Views.{view_after, view_before}
+use Rattle.virtual_map.specs.States.{Runtime}
+use Rattle.runtime_view.specs.Views.{view_after}
 use Rattle.prov_cert.specs.Cert.{Plain}
-use Rattle.provenance_tables.specs.Regions.{bytes_in, rights_in}
+use Rattle.provenance_tables.specs.Regions.{bytes_in}
 use Rattle.mapped_runs.specs.Checked.{IsChecked, starts_after, starts_before}
-use Rattle.mapped_runs.specs.Shown.{ViewShows, rights_after, seen_after, seen_before}
-use Rattle.mapped_runs.specs.Made.{IsLater, IsMaking, MadeRights, MadeShows, fixed_up, made}
+use Rattle.mapped_runs.specs.Shown.{ViewShows, seen_before}
+use Rattle.mapped_runs.specs.Made.{IsMaking, MadeRights, MadeShows, fixed_up, made}
 use Rattle.mapped_runs.proofs.GroundLemmas.{view_is}
 
 -- the view behind a map, by what it is made of

@@ -1,13 +1,12 @@
 -- The system page where its pointers are moved.
-use Rattle.std.proofs.Common.{◌≡◌, ◌<◌, ◌≤◌, ◌+◌, ◌-◌, ◌*◌, ◌%◌, ℕ, zero, suc, Bool, true, false, List, [], ◌∷◌, length, take, drop, refl, sym, arith, ◌∙◌, ap}
-use Rattle.std.specs.Prelude.{◌^◌, ◌&&◌, nat_lt, nat_le, slice_get, slice_index, Some}
+use Rattle.std.proofs.Common.{◌≡◌, ◌<◌, ◌≤◌, ◌+◌, ◌*◌, ℕ, zero, suc, Bool, true, false, List, [], ◌∷◌, length, take, drop, refl, arith, ◌∙◌, ap}
+use Rattle.std.specs.Prelude.{◌^◌, ◌&&◌, nat_le, slice_get, slice_index, Some}
 use Rattle.std.proofs.lemmas.Bool.Decides.{nat_tests}
 use Rattle.uh_base.specs.Bytes.{number_at, plus}
-use Rattle.uh_base.specs.LittleEndian.{little_endian, low_bytes}
+use Rattle.uh_base.specs.LittleEndian.{low_bytes}
 use Rattle.uh_base.specs.Crc.{crc_of}
-use Rattle.guest_memory.specs.Lists.{written_over}
 use Rattle.system_tables.specs.declared.fields.Field.{Field}
-use Rattle.system_tables.specs.Fields.{all_fit, crc_field, fits, pointer, slot_pointers, with_crc, with_field, with_fields, word}
+use Rattle.system_tables.specs.Fields.{all_fit, crc_field, fits, pointer, slot_pointers, with_crc, with_field, with_fields}
 use Rattle.system_tables.specs.Tables.{moved, moved_fields}
 use Rattle.system_tables.specs.Laws.{CrcsAreWrittenAlone, FieldsReadBack, HasField, NumbersReadBack, in_order, is_in, number_in_page}
 use Rattle.mapped_runs.proofs.ByteLemmas.{listed_number, low_long, over_long, same_number}

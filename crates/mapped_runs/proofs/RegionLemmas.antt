@@ -1,17 +1,17 @@
 -- The regions of a driver that was checked, before a map and from it on.
-use Rattle.std.proofs.Common.{◌≡◌, ◌<◌, ◌≤◌, ◌+◌, ◌-◌, ◌*◌, ◌%◌, ℕ, zero, suc, Bool, true, false, List, [], ◌∷◌, ◌++◌, length, map, refl, sym, subst, arith, ◌⊎◌, inl, inr, ◌∙◌, ap, length-append}
-use Rattle.std.specs.Prelude.{◌≢◌, ◌^◌, ◌==◌, ◌&&◌, ◌||◌, not, nat_lt, nat_le, slice_get, slice_index, find, Option, Some, None, if◌then◌else◌}
+use Rattle.std.proofs.Common.{◌≡◌, ◌<◌, ◌≤◌, ◌+◌, ◌-◌, ◌*◌, ℕ, zero, suc, Bool, true, false, List, [], ◌∷◌, ◌++◌, length, map, refl, sym, subst, arith, inl, inr, ◌∙◌, ap, length-append}
+use Rattle.std.specs.Prelude.{◌≢◌, ◌^◌, ◌==◌, ◌&&◌, not, nat_lt, nat_le, slice_get, slice_index, Option, Some, None}
 use Rattle.std.specs.List.{list_any}
 use Rattle.std.proofs.lemmas.Bool.Decides.{nat_tests}
 use Rattle.std.proofs.lemmas.List.{get_or-append-add, get_or_append_left, get_or_past, length-map}
 use Rattle.uh_base.specs.Bytes.{number_at}
 use Rattle.page_alloc.specs.Pages.{page_at}
 use Rattle.memory_map.specs.declared.descriptor.Descriptor.{Descriptor}
-use Rattle.memory_map.specs.Map.{NeighboursDiffer, attribute_of, holds, map_of}
+use Rattle.memory_map.specs.Map.{NeighboursDiffer, attribute_of, holds}
 use Rattle.memory_map.specs.Laws.{MapIsMap}
 use Rattle.address_view.specs.Windows.{see}
 use Rattle.map_faults.specs.Grounds.{Call, Kept}
-use Rattle.map_faults.specs.Rules.{is_runtime, behind}
+use Rattle.map_faults.specs.Rules.{is_runtime}
 use Rattle.map_faults.specs.Faults.{entry_at}
 use Rattle.virtual_map.specs.States.{Runtime}
 use Rattle.map_transition.specs.Wholes.{HaveType, IsImage, Whole, type_of}
@@ -21,14 +21,14 @@ use Rattle.prov_cert.specs.declared.cert.CertSpan.{CertSpan}
 use Rattle.prov_cert.specs.Cert.{Plain}
 use Rattle.prov_layout.specs.Offsets.{every}
 use Rattle.prov_layout.specs.Laws.{PassesEach}
-use Rattle.prov_runs.specs.Bytes.{AreDisjoint, NoneMeet}
-use Rattle.provenance_tables.specs.Regions.{address_of, bytes_in, fixed_lens, fixed_starts, holds_given, is_cell, is_inside, kept_with, lens_of, meets_image, meets_region, own_passes, ranges_meet, region_passes, size_of, starts_of, with_own}
+use Rattle.prov_runs.specs.Bytes.{AreDisjoint}
+use Rattle.provenance_tables.specs.Regions.{address_of, bytes_in, fixed_lens, fixed_starts, is_cell, is_inside, lens_of, meets_image, meets_region, own_passes, ranges_meet, region_passes, size_of, starts_of, with_own}
 use Rattle.provenance_tables.specs.Passed.{NoneFailsStands, TablesPass}
 use Rattle.prov_laws.specs.Convert.{is_owned}
-use Rattle.mapped_runs.specs.Places.{AreSeenAt, IsInDescriptor, IsInWindow, MovesAsOne, RangesAreSeen, moved_by}
+use Rattle.mapped_runs.specs.Places.{IsInDescriptor, IsInWindow, MovesAsOne, RangesAreSeen, moved_by}
 use Rattle.mapped_runs.specs.Checked.{IsChecked, RegionMoves, RegionsAreApart, RegionsAreDisjoint, RegionsMove, regions_in, starts_after, starts_before}
-use Rattle.mapped_runs.proofs.MemberLemmas.{IsFound, all_at, both_true, found_at, held_high, held_low, on_page, one_holds, within}
-use Rattle.mapped_runs.proofs.GroundLemmas.{IsFirst, Places, is_first, map_covers, places, typed, window_clear}
+use Rattle.mapped_runs.proofs.MemberLemmas.{all_at, both_true, found_at, held_low, one_holds, within}
+use Rattle.mapped_runs.proofs.GroundLemmas.{Places, is_first, map_covers, places, typed, window_clear}
 
 -- ---- lists of regions
 

@@ -1,9 +1,8 @@
 -- Two runs of a driver that was checked.
-use Rattle.std.proofs.Common.{◌≡◌, ◌<◌, ◌≤◌, ◌+◌, ◌-◌, ◌*◌, ◌%◌, ℕ, zero, suc, Bool, true, false, List, refl, sym, subst, arith, ◌⊎◌, inl, inr, ◌∙◌, ap}
-use Rattle.std.specs.Prelude.{◌^◌, ◌==◌, ◌&&◌, ◌↔◌, nat_lt, nat_le, slice_get, slice_index, Option, Some, None, if◌then◌else◌}
+use Rattle.std.proofs.Common.{◌≡◌, ◌<◌, ◌≤◌, ◌+◌, ◌-◌, ◌%◌, ℕ, Bool, true, false, List, refl, sym, subst, arith, ◌⊎◌, inl, inr, ◌∙◌, ap}
+use Rattle.std.specs.Prelude.{◌^◌, ◌↔◌, nat_lt, slice_get, slice_index, Some}
 use Rattle.std.proofs.lemmas.Bool.Decides.{nat_tests}
-use Rattle.uh_base.specs.Bytes.{behind, plus}
-use Rattle.rv_step.specs.declared.bus.Access.{Access}
+use Rattle.uh_base.specs.Bytes.{behind}
 use Rattle.rv_step.specs.declared.bus.Access.TheVariants as access
 use Rattle.rv_step.specs.Exec.{Rights}
 use Rattle.memory_map.specs.Laws.{MapIsMap}
@@ -15,13 +14,12 @@ use Rattle.address_view.specs.Laws.{AllPass}
 use Rattle.map_faults.specs.Grounds.{Call, Kept}
 use Rattle.virtual_map.specs.States.{Runtime}
 use Rattle.prov_types.specs.Kinds.{AreApart, length_of}
-use Rattle.prov_cert.specs.declared.cert.CertSpan.{CertSpan}
 use Rattle.prov_cert.specs.declared.cert.Class.{Class as SpanClass}
 use Rattle.prov_cert.specs.declared.cert.Class.TheVariants as spans
 use Rattle.prov_cert.specs.Cert.{Plain}
 use Rattle.prov_layout.specs.declared.piece.Piece.{Piece}
 use Rattle.prov_layout.specs.Pieces.{AreOrdered, is_code, is_of, piece_at}
-use Rattle.prov_layout.specs.Laid.{class_of, laid, piece_of, service_cell}
+use Rattle.prov_layout.specs.Laid.{class_of, laid}
 use Rattle.prov_layout.specs.Laws.{PassesEach}
 use Rattle.prov_runs.specs.Bytes.{AreDisjoint}
 use Rattle.prov_runs.specs.Memory.{IsLaid}
@@ -29,14 +27,14 @@ use Rattle.provenance_check.specs.Ground.{AreFormed, Ground}
 use Rattle.provenance_tables.specs.Regions.{address_of, fixed_starts, lens_of, rights_in, starts_of}
 use Rattle.provenance_tables.specs.Spans.{may_run}
 use Rattle.provenance_tables.specs.Passed.{NoneFailsStands}
-use Rattle.prov_laws.specs.Checked.{AreRunsOf, BeginEven, regions_of}
-use Rattle.mapped_runs.specs.Places.{RangesAreSeen, moved_by}
+use Rattle.prov_laws.specs.Checked.{BeginEven, regions_of}
+use Rattle.mapped_runs.specs.Places.{RangesAreSeen}
 use Rattle.mapped_runs.specs.Checked.{IsChecked, RegionsAreApart, RegionsAreDisjoint, starts_after, starts_before}
-use Rattle.mapped_runs.specs.Shown.{RightsStay, rights_after, rights_before}
+use Rattle.mapped_runs.specs.Shown.{RightsStay, rights_before}
 use Rattle.mapped_runs.specs.Runs.{IsGroundOf, RunIsOf, RunsAreOf, targets_in}
 use Rattle.mapped_runs.proofs.GroundLemmas.{places, view_is}
 use Rattle.mapped_runs.proofs.RegionLemmas.{after_at, after_none, before_at, before_none, is_image, passes, ram_of, region_moves, start_at}
-use Rattle.mapped_runs.proofs.LaidLemmas.{HasByte, IsGiven, IsOfSpan, OfClass, buffers, laid_listed, of_class, service, tables}
+use Rattle.mapped_runs.proofs.LaidLemmas.{IsGiven, IsOfSpan, OfClass, buffers, laid_listed, of_class, service, tables}
 use Rattle.mapped_runs.proofs.FormedLemmas.{nodes_formed}
 
 -- a range passes a test where each of its addresses does

@@ -1,26 +1,24 @@
 -- What code sees from an accepted map on.
 use Rattle.std.proofs.Common.{◌≡◌, ◌<◌, ◌≤◌, ◌+◌, ◌-◌, ◌*◌, ◌%◌, ℕ, zero, suc, Bool, true, false, List, [], ◌∷◌, ◌++◌, refl, sym, subst, arith, ◌⊎◌, inl, inr, ◌∙◌, ap}
-use Rattle.std.specs.Prelude.{◌^◌, ◌==◌, ◌&&◌, ◌||◌, not, nat_lt, nat_le, slice_get, Option, Some, None, Ok, Result, if◌then◌else◌}
+use Rattle.std.specs.Prelude.{◌^◌, ◌==◌, ◌&&◌, nat_lt, nat_le, slice_get, Option, Some, None, Ok, if◌then◌else◌}
 use Rattle.std.proofs.lemmas.Bool.Decides.{nat_tests}
-use Rattle.page_alloc.specs.declared.layout.Layout.{Layout}
 use Rattle.memory_map.specs.declared.descriptor.Descriptor.{Descriptor}
 use Rattle.memory_map.specs.Map.{Covers}
 use Rattle.memory_map.specs.Laws.{MapIsMap}
 use Rattle.address_view.specs.declared.view.Window.{Window}
 use Rattle.address_view.specs.Windows.{place_in, see, shows, window_at}
-use Rattle.map_faults.specs.Grounds.{Ground, Call, window_pages, IsGround}
+use Rattle.map_faults.specs.Grounds.{Call, window_pages, IsGround}
 use Rattle.map_faults.specs.Rules.{is_runtime, is_unaligned, is_out, behind, meet, overlaps}
 use Rattle.map_faults.specs.Faults.{first_fault, entry_at}
-use Rattle.map_faults.specs.Pointers.{converted, converted_by}
-use Rattle.map_faults.specs.declared.pointer.ConvertRefusal.{ConvertRefusal}
+use Rattle.map_faults.specs.Pointers.{converted}
 use Rattle.map_faults.specs.Laws.{EntriesArePlaced, RangesAreApart}
 use Rattle.virtual_map.specs.States.{Runtime}
 use Rattle.runtime_turn.specs.Functions.{ground_of}
 use Rattle.runtime_view.specs.Views.{os_window, ranges_between, runtime_windows, view_after, virtual_of}
 use Rattle.map_transition.specs.Wholes.{Whole}
-use Rattle.mapped_runs.specs.Places.{AreSeenAt, IsInDescriptor, IsInWindow, MovesAsOne, OffsetsMove, PointersMove, RangesAreSeen, moved_by, place_after}
+use Rattle.mapped_runs.specs.Places.{AreSeenAt, IsInDescriptor, IsInWindow, MovesAsOne, OffsetsMove, PointersMove, RangesAreSeen, moved_by}
 use Rattle.mapped_runs.proofs.MemberLemmas.{none_at, on_page, some_same, within}
-use Rattle.mapped_runs.proofs.GroundLemmas.{ground_is, is_first, map_covers, places, window_clear}
+use Rattle.mapped_runs.proofs.GroundLemmas.{ground_is, is_first, places, window_clear}
 use Rattle.mapped_runs.proofs.EntryLemmas.{HasEntry, entry_of, place_by, window_fits}
 
 -- ---- the first window that shows an address

@@ -1,31 +1,25 @@
 -- What a driver's regions show before an accepted map and from it on.
-use Rattle.std.proofs.Common.{◌≡◌, ◌<◌, ◌≤◌, ◌+◌, ◌-◌, ◌*◌, ℕ, Bool, true, false, List, refl, sym, subst, arith, ◌∙◌, ap}
-use Rattle.std.specs.Prelude.{◌^◌, ◌==◌, ◌&&◌, nat_lt, nat_le, slice_index, Option, Some, None, Ok, if◌then◌else◌}
+use Rattle.std.proofs.Common.{◌≡◌, ◌<◌, ◌≤◌, ◌+◌, ◌-◌, ◌*◌, ℕ, true, List, refl, sym, subst, arith, ◌∙◌, ap}
+use Rattle.std.specs.Prelude.{nat_lt, nat_le, slice_index, Option, Some, None}
 use Rattle.std.proofs.lemmas.Bool.Decides.{nat_tests}
-use Rattle.rv_step.specs.declared.bus.Access.{Access}
 use Rattle.page_alloc.specs.declared.layout.Layout.{Layout}
 use Rattle.memory_map.specs.Laws.{MapIsMap}
-use Rattle.guest_memory.specs.declared.rights.Rights.{Rights}
 use Rattle.guest_memory.specs.Pages.{rights_at}
-use Rattle.address_view.specs.declared.view.Window.{Window}
-use Rattle.address_view.specs.Windows.{at_place, place_in, see, seen_bytes, shows, window_at}
+use Rattle.address_view.specs.Windows.{at_place, see, seen_bytes, window_at}
 use Rattle.address_view.specs.Seen.{may, view_allows}
 use Rattle.map_faults.specs.Grounds.{Call, Kept}
 use Rattle.map_faults.specs.Pointers.{converted}
 use Rattle.virtual_map.specs.States.{Runtime}
 use Rattle.runtime_view.specs.Views.{view_after, view_before}
-use Rattle.map_transition.specs.Wholes.{Whole}
 use Rattle.prov_types.specs.Kinds.{length_of}
 use Rattle.prov_cert.specs.Cert.{Plain}
 use Rattle.prov_layout.specs.Laws.{PassesEach}
-use Rattle.provenance_check.specs.Ground.{Ground}
 use Rattle.provenance_tables.specs.Regions.{lens_of, starts_of}
 use Rattle.provenance_tables.specs.Passed.{NoneFailsStands}
 use Rattle.prov_laws.specs.Convert.{is_owned}
-use Rattle.mapped_runs.specs.Places.{PointersMove, RangesAreSeen, moved_by}
-use Rattle.mapped_runs.specs.Checked.{IsChecked, RegionsAreApart, RegionsMove, starts_after, starts_before}
+use Rattle.mapped_runs.specs.Places.{PointersMove, RangesAreSeen}
+use Rattle.mapped_runs.specs.Checked.{IsChecked, starts_after, starts_before}
 use Rattle.mapped_runs.specs.Shown.{PointersConvert, RightsStay, ViewShows, answer_of, or_same, seen_after, seen_before}
-use Rattle.mapped_runs.proofs.GroundLemmas.{is_first, places}
 use Rattle.mapped_runs.proofs.RegionLemmas.{after_at, before_at, ram_of, region_moves}
 
 -- before a map RAM is seen at its own addresses

@@ -1,12 +1,12 @@
 -- What notified functions leave as it was.
-use Rattle.std.proofs.Common.{◌≡◌, ℕ, zero, suc, Bool, true, false, List, [], ◌∷◌, length, refl, sym, ap, ◌∙◌, Some, None}
-use Rattle.std.specs.Prelude.{slice_set, nat_le, ◌==◌, ◌&&◌, Option, Result, Ok, Err, if◌then◌else◌}
+use Rattle.std.proofs.Common.{◌≡◌, ℕ, zero, suc, Bool, true, false, List, [], ◌∷◌, length, refl, ap, ◌∙◌, Some, None}
+use Rattle.std.specs.Prelude.{nat_le, ◌==◌, ◌&&◌, Option, Result, Ok, Err, if◌then◌else◌}
 use Rattle.std.proofs.Math.ListN.{length-set}
 use Rattle.uh_base.specs.Bytes.{next}
 use Rattle.uh_base.specs.LittleEndian.{low_bytes}
 use Rattle.rv_step.specs.Exec.{Outcome, Went, Stored, Stopped}
 use Rattle.memory_map.specs.declared.descriptor.Descriptor.{Descriptor}
-use Rattle.guest_memory.specs.Pages.{Pages, is_touched}
+use Rattle.guest_memory.specs.Pages.{Pages}
 use Rattle.guest_call.specs.Arguments.{argument}
 use Rattle.guest_call.specs.Checks.{can_write, number_seen}
 use Rattle.address_view.specs.Windows.{see}
@@ -14,9 +14,8 @@ use Rattle.address_view.specs.Stored.{put_seen, stored, lacks_seen}
 use Rattle.map_faults.specs.declared.pointer.ConvertRefusal.{ConvertRefusal}
 use Rattle.map_faults.specs.declared.pointer.ConvertRefusal.TheVariants.{Null, NotFound}
 use Rattle.map_faults.specs.Pointers.{converted}
-use Rattle.map_faults.specs.Grounds.{Call}
 use Rattle.event_queue.specs.declared.event.Notify.{Notify}
-use Rattle.virtual_map.specs.States.{Runtime, SameParts}
+use Rattle.virtual_map.specs.States.{Runtime}
 use Rattle.virtual_map.specs.Instructions.{Carried, comes_to, carried, outcome_of}
 use Rattle.runtime_turn.specs.declared.function.CallTurn.{CallTurn}
 use Rattle.runtime_turn.specs.declared.function.CallTurn.TheVariants.{Goes, Returns, Halts, Memory}
@@ -25,7 +24,7 @@ use Rattle.runtime_turn.specs.Turns.{slot_seen}
 use Rattle.runtime_turn.specs.Functions.{Ran, Turned, convert_by, convert_pointer, serve, by_slot, function_turn, goes_on, run_from, run_function, registers_for, most_steps}
 use Rattle.map_transition.specs.Laws.{FunctionsKeepTouched, StayTouched}
 use Rattle.map_transition.specs.Transitions.{Changed, begun, followed_by, run_all}
-use Rattle.mapped_runs.specs.Made.{FunctionsAreCode, IsLater}
+use Rattle.mapped_runs.specs.Made.{FunctionsAreCode}
 
 -- ---- what a store leaves
 

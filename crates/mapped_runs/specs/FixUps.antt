@@ -1,5 +1,5 @@
 -- What the fix-ups of a transition make of the memory of a driver that was checked.
-use Rattle.std.specs.Prelude.{ℕ, ◌≡◌, ◌+◌, ◌<◌, ◌≤◌, Bool, true, false, List, [], Some, slice_get}
+use Rattle.std.specs.Prelude.{ℕ, ◌≡◌, ◌+◌, ◌<◌, Bool, true, false, List, [], Some, slice_get}
 use Rattle.uh_base.specs.Bytes.{number_at}
 use Rattle.base_reloc.specs.declared.site.Site.{Site}
 use Rattle.base_reloc.specs.Sites.{covers, width_of}

@@ -1,30 +1,15 @@
 -- A virtual address map is made over a driver that was checked.
-use Rattle.std.specs.Prelude.{ℕ, ◌≡◌, ◌+◌, ◌-◌, ◌<◌, ◌≤◌, ◌==◌, ◌&&◌, not, nat_le, nat_lt, Bool, true, false, List, [], length, Some, slice_get}
-use Rattle.std.specs.List.{All}
-use Rattle.uh_base.specs.Bytes.{number_at}
-use Rattle.base_reloc.specs.declared.site.Site.{Site}
-use Rattle.base_reloc.specs.Sites.{end_of}
-use Rattle.guest_memory.specs.Pages.{Pages, Whole as IsMemory}
+use Rattle.std.specs.Prelude.{ℕ, ◌≡◌, length}
+use Rattle.guest_memory.specs.Pages.{Whole as IsMemory}
 use Rattle.map_faults.specs.Grounds.{Call, Kept}
 use Rattle.virtual_map.specs.States.{Runtime, SameParts}
-use Rattle.memory_map.specs.declared.descriptor.Descriptor.{Descriptor}
-use Rattle.map_transition.specs.Fixes.{has_byte}
 use Rattle.map_transition.specs.Laws.{StayTouched}
 use Rattle.map_transition.specs.Transitions.{all_moved, begun, run_all, tables_moved, words_moved}
-use Rattle.prov_types.specs.declared.kinds.Kind.{Kind}
-use Rattle.prov_types.specs.Kinds.{Holds}
 use Rattle.prov_cert.specs.Cert.{Plain}
-use Rattle.prov_layout.specs.declared.piece.Class.{Class}
-use Rattle.prov_layout.specs.declared.piece.Class.TheVariants.{Fixed}
-use Rattle.prov_layout.specs.declared.piece.Piece.{Piece}
-use Rattle.prov_runs.specs.Memory.{Moved}
 use Rattle.provenance_check.specs.Ground.{Ground}
 use Rattle.provenance_tables.specs.Regions.{bytes_in, lens_of, rights_in}
-use Rattle.prov_laws.specs.Checked.{regions_of}
-use Rattle.prov_laws.specs.Convert.{Between, layout_of}
 use Rattle.prov_laws.specs.Behind.{ShowsAtNew}
 use Rattle.mapped_runs.specs.Checked.{IsChecked, starts_after, starts_before}
-use Rattle.mapped_runs.specs.Runs.{IsGroundOf}
 use Rattle.mapped_runs.specs.Shown.{rights_after}
 
 -- Code ran between two states, which leaves all but the bytes of memory and which of its pages are touched.

@@ -1,5 +1,5 @@
 -- Where code sees a range of RAM from an accepted map on (UEFI 2.10, section 8.4: SetVirtualAddressMap).
-use Rattle.std.specs.Prelude.{ℕ, ◌≡◌, ◌≤◌, ◌<◌, ◌+◌, ◌-◌, ◌*◌, ◌%◌, ◌^◌, ◌&&◌, ◌⊎◌, nat_le, nat_lt, true, List, Option, Some, None, Ok, slice_get, if◌then◌else◌}
+use Rattle.std.specs.Prelude.{ℕ, ◌≡◌, ◌≤◌, ◌<◌, ◌+◌, ◌-◌, ◌%◌, ◌^◌, ◌&&◌, ◌⊎◌, nat_le, nat_lt, true, List, Some, None, Ok, slice_get, if◌then◌else◌}
 use Rattle.page_alloc.specs.declared.layout.Layout.{Layout}
 use Rattle.memory_map.specs.declared.descriptor.Descriptor.{Descriptor}
 use Rattle.address_view.specs.declared.view.Window.{Window}

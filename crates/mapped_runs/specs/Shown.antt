@@ -3,7 +3,6 @@ use Rattle.std.specs.Prelude.{ℕ, ◌≡◌, ◌+◌, ◌<◌, List, Result, Ok
 use Rattle.rv_step.specs.declared.bus.Access.{Access}
 use Rattle.rv_step.specs.Exec.{Rights}
 use Rattle.memory_map.specs.declared.descriptor.Descriptor.{Descriptor}
-use Rattle.guest_memory.specs.declared.rights.Rights.{Rights as PageRights}
 use Rattle.guest_memory.specs.Pages.{Pages, rights_at}
 use Rattle.address_view.specs.Windows.{see, seen_bytes}
 use Rattle.address_view.specs.Seen.{view_allows}
