@@ -9,6 +9,3 @@ pub mod FormedLemmas
 pub mod RunLemmas
 pub mod TurnLemmas
 pub mod MadeLemmas
-pub mod ByteLemmas
-pub mod PageLemmas
-pub mod KeptLemmas

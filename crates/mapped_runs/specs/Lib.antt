@@ -3,4 +3,3 @@ pub mod Checked
 pub mod Shown
 pub mod Runs
 pub mod Made
-pub mod FixUps
